@@ -1,0 +1,17 @@
+pub mod Cuts
+pub mod Decimals
+pub mod Keys
+pub mod Lines
+pub mod Words
+pub mod BlockLines
+pub mod Unique
+pub mod Starting
+pub mod Headers
+pub mod Refusing
+pub mod Answering
+pub mod OneAnswer
+pub mod Only
+pub mod Histories
+pub mod Joinings
+pub mod OneMore
+pub mod Ends

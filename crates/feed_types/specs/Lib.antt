@@ -1,0 +1,11 @@
+pub mod Limits
+pub mod Text
+pub mod Tokens
+pub mod Fields
+pub mod Joining
+pub mod Books
+pub mod Reading
+pub mod Blocks
+pub mod Progress
+pub mod Faults
+pub mod History
