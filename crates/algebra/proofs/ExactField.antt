@@ -2,14 +2,14 @@
 --
 --   exact-field D good    the ordered field of the exact numbers with √D
 --   ring-of F             the ring of an ordered field, for the solver of ring identities
-use mathlib.Core.Path.{_≡_, refl, ap, subst}
-use mathlib.Core.Logic.{_⊎_, inl, inr, _≢_}
+use mathlib.Core.Path.{_≡_, refl, ap}
+use mathlib.Core.Logic.{inl, inr, _≢_}
 use Prim.Native.Nat.{ℕ, zero, suc}
 use native.Mathlib.Omega.{arith}
 use lib.IntN.{natAbs}
 use Rattle.algebra.specs.Ring.{Ring, Ordered, Inverses}
 use Rattle.algebra.specs.Field.{OrderedField}
-use Rattle.algebra.specs.Exact.{Exact, Radicand, zeroE, oneE, addE, mulE, negE, invE, PosE}
+use Rattle.algebra.specs.Exact.{Exact, Radicand, zeroE, oneE}
 use Rattle.algebra.specs.Laws.{OrderedFieldLaws, Exact-is-ordered-field}
 use Rattle.algebra.proofs.ExactRing.{Exact-ring}
 use Rattle.algebra.proofs.ExactOrder.{Exact-ordered, Exact-inverses}

@@ -1,19 +1,19 @@
 -- Exact numbers are an ordered field. Assumes nothing.
-use mathlib.Core.Path.{_≡_, refl, sym, _∙_, ap, ap₂, subst}
+use mathlib.Core.Path.{_≡_, refl, sym, _∙_, ap, subst}
 use mathlib.Core.Logic.{_⊎_, inl, inr, _≢_}
-use mathlib.Core.Bool.{Bool, true, false, _&&_, _||_}
-use Prim.Native.Nat.{ℕ, zero, suc, _+_, _*_, _<_, _≤_}
+use mathlib.Core.Bool.{Bool, _&&_, _||_}
+use Prim.Native.Nat.{ℕ, zero, suc, _*_, _<_, _≤_}
 use native.Mathlib.Omega.{arith}
-use lib.Dec.{T, eqb, eqb→eq, lt→ltb}
-use lib.IntN.{ℤ, pos, negsuc, natAbs}
-use Rattle.algebra.specs.Ring.{Ring, Ordered, Inverses}
-use Rattle.algebra.specs.Rational.{ℚ, 0ℚ, 1ℚ, over, whole, addℚ, negq, mulℚ, invℚ, positive, Posℚ}
+use lib.Dec.{T, eqb→eq, lt→ltb}
+use lib.IntN.{pos, natAbs}
+use Rattle.algebra.specs.Ring.{Ordered, Inverses}
+use Rattle.algebra.specs.Rational.{ℚ, 0ℚ, 1ℚ, over, whole, addℚ, negq, mulℚ, invℚ, Posℚ}
 use Rattle.algebra.specs.Exact.{Exact, Radicand, root-part, zeroE, oneE, addE, negE, mulE, normE, invE, above, null, positiveE, PosE}
-use Rattle.algebra.proofs.RingSolver.{_:+_, _:*_, _:-_, :neg, lit, _≋_, mul-nil, neg-zero, solve₁, solve₂, solve₃, solve₄}
+use Rattle.algebra.proofs.RingSolver.{_:+_, _:*_, _:-_, :neg, _≋_, mul-nil, neg-zero, solve₃, solve₄}
 use Rattle.algebra.proofs.Rational.{ℚ-ring, ℚ-ordered, ℚ-inverses, is-zero, sign-is, over-is, nat-zero}
 use Rattle.algebra.proofs.Integers.{abs-zero}
 use Rattle.algebra.proofs.Irrational.{irrational, floor}
-use Rattle.algebra.proofs.ExactRing.{Exact-ring, Pairs, both, both-inj, both-zero, both-one, both-add, both-neg, both-mul, flat-zero, kept, zero-mul, parts-equal}
+use Rattle.algebra.proofs.ExactRing.{Exact-ring, Pairs, both, both-inj, both-zero, both-one, both-add, both-neg, both-mul, flat-zero, kept, zero-mul}
 use Rattle.algebra.proofs.Booleans.{or-cases, or-left, or-right, and-split, and-join}
 use Rattle.algebra.proofs.OrderedRing as Ord
 use Rattle.algebra.proofs.QuadraticOrder as Quad

@@ -1,20 +1,15 @@
 -- Exact numbers are a commutative ring. Assumes nothing.
-use mathlib.Core.Path.{_≡_, refl, sym, _∙_, ap, ap₂, subst}
+use mathlib.Core.Path.{_≡_, refl, sym, _∙_, ap, ap₂}
 use mathlib.Core.HLevel.{isProp→PathP}
-use mathlib.Core.Logic.{_⊎_, inl, inr, _≢_}
-use mathlib.Core.Bool.{Bool, true, false, _&&_, _||_}
-use Prim.Native.Nat.{ℕ, zero, suc, _+_, _*_, _<_, _≤_}
-use native.Mathlib.Nat as NatL
+use Prim.Native.Nat.{ℕ, zero, suc}
 use native.Mathlib.Omega.{arith}
-use lib.Dec.{T, T-prop, ltb, eqb, ltb→lt, lt→ltb, eqb→eq, eqb-refl}
-use lib.IntN.{ℤ, pos, negsuc, negℤ, natAbs, _+ℤ_, _*ℤ_}
-use Rattle.algebra.specs.Ring.{Ring, Ordered, Inverses}
-use Rattle.algebra.specs.Rational.{ℚ, 0ℚ, 1ℚ, over, whole, addℚ, negq, mulℚ, invℚ, positive, Posℚ}
-use Rattle.algebra.specs.Exact.{Exact, fits, root-part, made, exact, zeroE, oneE, wholeE, addE, negE, mulE, normE, invE, positiveE, PosE}
-use Rattle.algebra.proofs.RingSolver.{_:+_, _:*_, _:-_, :neg, lit, _≋_, equal, mul-nil, neg-zero, from₁, solve₁, solve₂, solve₃, solve₄, solve₅, solve₆, solve₇}
-use Rattle.algebra.proofs.Rational.{ℚ-ring, ℚ-ordered, ℚ-inverses, is-zero}
-use Rattle.algebra.proofs.OrderedRing as Ord
-use Rattle.algebra.proofs.QuadraticOrder as Quad
+use lib.Dec.{T, T-prop, eqb→eq}
+use lib.IntN.{pos, natAbs}
+use Rattle.algebra.specs.Ring.{Ring}
+use Rattle.algebra.specs.Rational.{ℚ, 0ℚ, 1ℚ, over, whole, addℚ, negq, mulℚ}
+use Rattle.algebra.specs.Exact.{Exact, fits, root-part, exact, zeroE, oneE, wholeE, addE, negE, mulE}
+use Rattle.algebra.proofs.RingSolver.{mul-nil, neg-zero}
+use Rattle.algebra.proofs.Rational.{ℚ-ring, is-zero}
 use Rattle.algebra.proofs.Integers.{abs-zero}
 use Rattle.algebra.proofs.RingsMade.{pairs, within}
 

@@ -1,7 +1,7 @@
 -- `gcd` is the greatest common divisor, and fractions in lowest terms have equal parts where they are equal. Assumes nothing.
-use mathlib.Core.Path.{_≡_, refl, sym, _∙_, ap, subst}
-use Prim.Native.Nat.{ℕ, zero, suc, _*_, _%_, _/_, _<_, _≤_, _∣_}
-use native.Mathlib.Nat.{dvd-refl, dvd-zero, dvd-mod-iff, dvd-antisymm, dvd-mul-left, dvd-mul-right, dvd-trans, mod-lt, eq-one-of-dvd-one, dvd-of-mul-dvd-mul-left, mul-dvd-mul-left, mul-div-cancel', mul-div-cancel-left, pos-of-dvd-of-pos, mul-comm, mul-one, eq-of-mul-eq-mul-left}
+use mathlib.Core.Path.{_≡_, sym, _∙_, ap, subst}
+use Prim.Native.Nat.{ℕ, zero, suc, _*_, _%_, _/_, _<_, _∣_}
+use native.Mathlib.Nat.{dvd-refl, dvd-zero, dvd-mod-iff, dvd-antisymm, dvd-mul-left, dvd-mul-right, dvd-trans, mod-lt, eq-one-of-dvd-one, dvd-of-mul-dvd-mul-left, mul-dvd-mul-left, mul-div-cancel', pos-of-dvd-of-pos, mul-comm, mul-one}
 use native.Mathlib.Omega.{arith}
 use Rattle.algebra.specs.Gcd.{euclid, gcd, gcd₃, IsGcd, IsGcd₃}
 use Rattle.algebra.specs.Laws.{Gcd-is-greatest}

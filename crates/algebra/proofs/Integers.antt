@@ -1,12 +1,11 @@
 -- The whole numbers are a commutative ring, and ordered. Assumes nothing.
 use mathlib.Core.Path.{_≡_, refl, sym, _∙_, ap, ap₂, subst}
-use mathlib.Core.Logic.{_⊎_, inl, inr, _≢_}
-use mathlib.Core.Bool.{Bool, true, false}
-use Prim.Native.Nat.{ℕ, zero, suc, _+_, _*_, _<_, _≤_}
+use mathlib.Core.Logic.{_⊎_, inl, inr}
+use Prim.Native.Nat.{ℕ, zero, suc, _+_, _*_}
 use native.Mathlib.Nat as NatL
 use native.Mathlib.Omega.{arith}
-use lib.Dec.{T, ltb, ltb→lt, lt→ltb}
-use lib.IntN.{ℤ, pos, negsuc, sucℤ, predℤ, negℤ, natAbs, one, _+ℤ_, _*ℤ_, _-ℤ_, ℤ-ind, +ℤ-one, -ℤ-one, +ℤ-comm, +ℤ-assoc, +ℤ-idr, +ℤ-invr, zero-*ℤ, *ℤ-one, *ℤ-comm, sucℤ-*ℤ, predℤ-*ℤ, negℤ-+ℤ, negℤ-negℤ}
+use lib.Dec.{T, ltb→lt, lt→ltb}
+use lib.IntN.{ℤ, pos, negsuc, negℤ, natAbs, one, _+ℤ_, _*ℤ_, ℤ-ind, +ℤ-one, -ℤ-one, +ℤ-comm, +ℤ-assoc, +ℤ-idr, +ℤ-invr, zero-*ℤ, *ℤ-one, *ℤ-comm, sucℤ-*ℤ, predℤ-*ℤ, negℤ-+ℤ, negℤ-negℤ}
 use Rattle.algebra.specs.Ring.{Ring, Ordered}
 use Rattle.algebra.specs.Rational.{positive}
 

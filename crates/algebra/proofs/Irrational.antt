@@ -1,13 +1,12 @@
 -- A number that is no square is no square of a fraction. Assumes nothing.
 use mathlib.Core.Path.{_≡_, refl, sym, _∙_, ap, ap₂, subst}
-use mathlib.Core.Logic.{_⊎_, inl, inr, _≢_}
 use Prim.Native.Nat.{ℕ, zero, suc, _+_, _-_, _*_, _<_, _≤_}
 use native.Mathlib.Nat as NatL
 use native.Mathlib.Decide.{decLt}
 use native.Mathlib.Omega.{arith}
-use lib.IntN.{ℤ, pos, negsuc, negℤ, natAbs, _+ℤ_, _*ℤ_, _-ℤ_}
-use Rattle.algebra.specs.Rational.{ℚ, 0ℚ, whole, over, mulℚ, Posℚ}
-use Rattle.algebra.proofs.RingSolver.{_:+_, _:*_, _:-_, :neg, lit, _≋_, from₁, from₂, solve₁, solve₂, solve₃, solve₄, solve₅, solve₆}
+use lib.IntN.{ℤ, pos, negℤ, natAbs, _+ℤ_, _*ℤ_, _-ℤ_}
+use Rattle.algebra.specs.Rational.{ℚ, 0ℚ, whole, mulℚ}
+use Rattle.algebra.proofs.RingSolver.{_:+_, _:*_, _:-_, :neg, lit, _≋_, from₁, from₂, solve₂, solve₃, solve₄, solve₆}
 use Rattle.algebra.proofs.Integers.{ℤ-ring, abs-mul, abs-zero}
 use Rattle.algebra.proofs.Rational.{Is, over-is, mul-is, mul-self, den-pos, is-zero, cancel-right}
 

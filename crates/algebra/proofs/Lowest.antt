@@ -3,16 +3,17 @@ use mathlib.Core.Path.{_≡_, refl, sym, _∙_, ap, ap₂, subst}
 use Prim.Native.Nat.{ℕ, zero, suc, _*_, _/_, _<_, _∣_}
 use native.Mathlib.Nat as NatL
 use native.Mathlib.Omega.{arith}
-use lib.IntN.{ℤ, pos, negsuc, negℤ, natAbs, _*ℤ_}
+use lib.IntN.{ℤ, pos, natAbs, _*ℤ_}
 use Rattle.algebra.specs.Gcd.{gcd₃}
-use Rattle.algebra.specs.Rational.{part}
-use Rattle.algebra.specs.Exact.{Exact, exact}
-use Rattle.algebra.specs.Laws.{Plain, LowestParts, Lowest-parts-unique}
-use Rattle.algebra.proofs.RingSolver.{_:*_, _≋_, solve₂}
+use Rattle.algebra.specs.Rational.{ℚ, over, part}
+use Rattle.algebra.specs.Exact.{exact}
+use Rattle.algebra.specs.Laws.{Plain, LowestParts, Lowest-parts-unique, Lowest-parts-exist}
+use Rattle.algebra.proofs.RingSolver.{_:*_, lit, _≋_, solve₁, solve₃}
 use Rattle.algebra.proofs.Integers.{ℤ-ring, abs-mul}
-use Rattle.algebra.proofs.Gcd.{gcd₃-is, gcd₃-pos, gcd₃-scale, gcd₃-parts}
-use Rattle.algebra.proofs.Rational.{abs-part, part-is, cancel-right}
-use Rattle.algebra.proofs.Triples.{same-number, exact-same}
+use Rattle.algebra.proofs.Gcd.{gcd₃-is, gcd₃-scale, gcd₃-parts}
+use Rattle.algebra.proofs.Rational.{abs-part, part-is, cancel-right, agree, over-is, dens, den-pos}
+use Rattle.algebra.proofs.ExactRing.{parts-equal, flat-zero}
+use Rattle.algebra.proofs.Triples.{same-number, exact-same, re-exact, im-exact}
 
 -- m divides m′ where p/m and q/m in lowest parts are p′/m′ and q′/m′
 divides : (p q p′ q′ : ℤ) (m m′ : ℕ) → 0 < m′ → gcd₃ (natAbs p) (natAbs q) m ≡ 1 → p *ℤ pos m′ ≡ p′ *ℤ pos m → q *ℤ pos m′ ≡ q′ *ℤ pos m → m ∣ m′
@@ -58,3 +59,38 @@ module _ (D : ℕ) (p q : ℤ) (m : ℕ) (h : 0 < m) where
       exact-same D (part p divisor) (part q divisor) p q (m / divisor) m part-above h
       (part-is p divisor m (times-part p (gcd₃-is (natAbs p) (natAbs q) m .first)) whole-part)
       (part-is q divisor m (times-part q (gcd₃-is (natAbs p) (natAbs q) m .second)) whole-part)
+
+-- ---- every number has lowest parts
+pub lowest-parts-exist : Lowest-parts-exist
+lowest-parts-exist D x =
+    (part p (divisor D p q m h), part q (divisor D p q m h), m / divisor D p q m h, parts-lowest D p q m h plain, parts-same D p q m h ∙ triple)
+  where
+    a : ℚ
+    a = x .re
+
+    b : ℚ
+    b = x .im
+
+    p : ℤ
+    p = a .num *ℤ pos (b .den)
+
+    q : ℤ
+    q = b .num *ℤ pos (a .den)
+
+    m : ℕ
+    m = a .den * b .den
+
+    h : 0 < m
+    h = dens a b
+
+    plain : Plain D q
+    plain e = ap (λ (z : ℚ). z .num *ℤ pos (a .den)) (flat-zero x e) ∙ solve₁ ℤ-ring (λ d. lit 0 :* d ≋ lit 0) tt (pos (a .den))
+
+    re-same : over p m ≡ a
+    re-same = agree (over p m) a p (a .num) m (a .den) h (den-pos a) (over-is p m h) refl (solve₃ ℤ-ring (λ n d e. n :* e :* d ≋ n :* (d :* e)) tt (a .num) (pos (a .den)) (pos (b .den)))
+
+    im-same : over q m ≡ b
+    im-same = agree (over q m) b q (b .num) m (b .den) h (den-pos b) (over-is q m h) refl (solve₃ ℤ-ring (λ n d e. n :* d :* e ≋ n :* (d :* e)) tt (b .num) (pos (a .den)) (pos (b .den)))
+
+    triple : exact D p q m ≡ x
+    triple = parts-equal (exact D p q m) x (re-exact D p q m ∙ re-same) (im-exact D p q m h plain ∙ im-same)

@@ -1,8 +1,8 @@
 -- What follows in every ordered commutative ring. Assumes nothing.
-use mathlib.Core.Path.{_≡_, refl, sym, _∙_, ap, ap₂, subst}
+use mathlib.Core.Path.{_≡_, sym, _∙_, ap, subst}
 use mathlib.Core.Logic.{_⊎_, inl, inr, _≢_}
 use Rattle.algebra.specs.Ring.{Ring, Ordered}
-use Rattle.algebra.proofs.RingSolver.{_:+_, _:*_, _:-_, :neg, lit, _≋_, equal, mul-nil, neg-zero, solve₁, solve₂, solve₃}
+use Rattle.algebra.proofs.RingSolver.{_:+_, _:*_, _:-_, :neg, _≋_, equal, mul-nil, neg-zero, solve₁, solve₂, solve₃}
 
 module _ (R : Ring) (O : Ordered R) where
   open Ring R using (car, zero as 𝟘, one as 𝟙, add as _⊕_, mul as _⊗_, neg as ⊖, add-neg, add-zero, mul-comm)

@@ -1,22 +1,22 @@
 -- A triple is positive exactly where its parts pass a test on whole numbers. Assumes nothing.
-use mathlib.Core.Path.{_≡_, refl, sym, _∙_, ap, ap₂, subst}
-use mathlib.Core.Logic.{_⊎_, inl, inr, _≢_, _↔_}
-use mathlib.Core.Bool.{Bool, true, false, _&&_, _||_}
-use Prim.Native.Nat.{ℕ, zero, suc, _+_, _*_, _<_}
+use mathlib.Core.Path.{_≡_, refl, sym, _∙_, ap, subst}
+use mathlib.Core.Logic.{inl, inr}
+use mathlib.Core.Bool.{Bool, _&&_, _||_}
+use Prim.Native.Nat.{ℕ, zero, suc, _*_, _<_}
 use native.Mathlib.Nat as NatL
 use native.Mathlib.Omega.{arith}
-use lib.Dec.{T, eqb, eqb→eq, eqb-refl, ltb, ltb→lt, lt→ltb}
+use lib.Dec.{T, eqb, eqb→eq, lt→ltb}
 use lib.IntN.{ℤ, pos, negsuc, negℤ, natAbs, _+ℤ_, _*ℤ_}
 use lib.Signed.{_≤ℤ_, _<ℤ_}
 use Rattle.std.proofs.shelf.Signed.{ints}
-use Rattle.algebra.specs.Rational.{ℚ, 0ℚ, over, whole, addℚ, negq, mulℚ, positive, Posℚ}
-use Rattle.algebra.specs.Exact.{Exact, exact, normE, above, null, positiveE, PosE}
+use Rattle.algebra.specs.Rational.{ℚ, whole, addℚ, negq, mulℚ, positive}
+use Rattle.algebra.specs.Exact.{exact, normE, above, null, positiveE, PosE}
 use Rattle.algebra.specs.Laws.{Plain, PositiveParts, Positive-of-parts}
 use Rattle.algebra.proofs.Booleans.{or-cases, or-left, or-right, and-split, and-join, same-test}
-use Rattle.algebra.proofs.RingSolver.{_:+_, _:*_, _:-_, :neg, lit, _≋_, solve₂, solve₄}
+use Rattle.algebra.proofs.RingSolver.{_:+_, _:*_, :neg, lit, _≋_, solve₂, solve₄}
 use Rattle.algebra.proofs.Integers.{ℤ-ring, ℤ-ordered, positive-mul, abs-zero}
 use Rattle.algebra.proofs.OrderedRing as Ord
-use Rattle.algebra.proofs.Rational.{Is, over-is, add-is, mul-is, neg-is, rewrite-is, sign-is, den-pos, is-zero, cancel-right}
+use Rattle.algebra.proofs.Rational.{Is, over-is, add-is, mul-is, neg-is, rewrite-is, sign-is, den-pos, cancel-right}
 use Rattle.algebra.proofs.Triples.{im-exact, re-exact}
 
 -- ---- the sign of a fraction is that of its numerator

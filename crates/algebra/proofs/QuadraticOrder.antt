@@ -1,8 +1,8 @@
 -- Numbers a + b√d over an ordered field: when they are positive, and that sums and products of positives are. Assumes nothing.
-use mathlib.Core.Path.{_≡_, refl, sym, _∙_, ap, ap₂, subst}
+use mathlib.Core.Path.{_≡_, sym, _∙_, ap, ap₂, subst}
 use mathlib.Core.Logic.{_⊎_, inl, inr, _≢_}
 use Rattle.algebra.specs.Ring.{Ring, Ordered, Inverses}
-use Rattle.algebra.proofs.RingSolver.{_:+_, _:*_, _:-_, :neg, lit, _≋_, equal, mul-nil, neg-zero, from₁, solve₁, solve₂, solve₃, solve₄, solve₅, solve₆, solve₇}
+use Rattle.algebra.proofs.RingSolver.{_:+_, _:*_, _:-_, :neg, _≋_, equal, mul-nil, neg-zero, solve₂, solve₃, solve₄, solve₅, solve₇}
 use Rattle.algebra.proofs.OrderedRing as Ord
 
 module _ (R : Ring) (O : Ordered R) (I : Inverses R) (d : R .car) where

@@ -1,13 +1,13 @@
 -- The quotient of two triples. A factor s of 1 or −1 keeps the part below above 0; the lemmas hold for every s. Assumes nothing.
-use mathlib.Core.Path.{_≡_, refl, sym, _∙_, ap, ap₂}
+use mathlib.Core.Path.{_≡_, sym, _∙_, ap}
 use mathlib.Core.Logic.{_≢_}
 use Prim.Native.Nat.{ℕ, _*_, _<_}
 use native.Mathlib.Nat as NatL
 use native.Mathlib.Omega.{arith}
 use lib.IntN.{ℤ, pos, negℤ, _+ℤ_, _-ℤ_, _*ℤ_}
-use Rattle.algebra.specs.Exact.{Exact, Radicand, exact, zeroE, oneE, mulE, invE}
+use Rattle.algebra.specs.Exact.{Exact, Radicand, exact, zeroE, mulE, invE}
 use Rattle.algebra.specs.Laws.{Plain}
-use Rattle.algebra.proofs.RingSolver.{_:+_, _:*_, _:-_, :neg, lit, _≋_, sound, look, var, solve₁, solve₂, solve₃, solve₄, solve₅, solve₆, solve₇, solve₈, from₁}
+use Rattle.algebra.proofs.RingSolver.{_:+_, _:*_, _:-_, :neg, lit, _≋_, solve₁, solve₂, solve₃, solve₆, solve₈}
 use Rattle.algebra.proofs.Integers.{ℤ-ring}
 use Rattle.algebra.proofs.ExactRing.{Exact-ring}
 use Rattle.algebra.proofs.ExactOrder.{Exact-ordered, mul-inv}

@@ -1,6 +1,4 @@
 -- Numbers that are no squares. Assumes nothing.
-use mathlib.Core.Path.{_≡_}
-use mathlib.Core.Logic.{_≢_}
 use Prim.Native.Nat.{ℕ, suc, _*_, _<_, _≤_}
 use native.Mathlib.Nat as NatL
 use native.Mathlib.Decide.{decLt}

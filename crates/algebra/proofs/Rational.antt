@@ -1,18 +1,18 @@
 -- The fractions are an ordered field. Assumes nothing.
-use mathlib.Core.Path.{_≡_, refl, sym, _∙_, ap, ap₂, subst, PathP}
+use mathlib.Core.Path.{_≡_, refl, sym, _∙_, ap, subst}
 use mathlib.Core.HLevel.{isProp→PathP}
-use mathlib.Core.Logic.{_⊎_, inl, inr, _≢_}
-use mathlib.Core.Bool.{Bool, true, false, _&&_}
-use Prim.Native.Nat.{ℕ, zero, suc, _+_, _*_, _/_, _<_, _≤_}
+use mathlib.Core.Logic.{inl, inr, _≢_}
+use mathlib.Core.Bool.{Bool, true, false}
+use Prim.Native.Nat.{ℕ, zero, suc, _+_, _*_, _/_, _<_}
 use native.Mathlib.Nat as NatL
 use native.Mathlib.Omega.{arith}
-use lib.Dec.{T, T-prop, ltb, eqb, ltb→lt, lt→ltb, eqb→eq, eqb-refl}
-use lib.IntN.{ℤ, pos, negsuc, negℤ, natAbs, _+ℤ_, _*ℤ_, negℤ-negℤ, *ℤ-zero}
+use lib.Dec.{T, T-prop, ltb, eqb, ltb→lt, lt→ltb, eqb→eq}
+use lib.IntN.{ℤ, pos, negsuc, negℤ, natAbs, _+ℤ_, _*ℤ_}
 use Rattle.algebra.specs.Ring.{Ring, Ordered, Inverses}
 use Rattle.algebra.specs.Gcd.{gcd}
-use Rattle.algebra.specs.Rational.{ℚ, 0ℚ, 1ℚ, lowest-terms, pack, pack′, part, over, addℚ, negq, mulℚ, flip, invℚ, positive, Posℚ, whole}
-use Rattle.algebra.proofs.Gcd.{gcd-left, gcd-right, gcd-pos, gcd-parts, same-den}
-use Rattle.algebra.proofs.RingSolver.{Expr, Eqn, var, lit, _:+_, _:*_, _:-_, :neg, _≋_, from₁, from₂, solve₁, solve₂, solve₃, solve₄, solve₅, solve₆, solve₈, from₃}
+use Rattle.algebra.specs.Rational.{ℚ, 0ℚ, 1ℚ, lowest-terms, pack′, part, over, addℚ, negq, mulℚ, flip, invℚ, positive, Posℚ, whole}
+use Rattle.algebra.proofs.Gcd.{gcd-left, gcd-right, gcd-parts, same-den}
+use Rattle.algebra.proofs.RingSolver.{lit, _:+_, _:*_, _:-_, :neg, _≋_, from₂, solve₁, solve₂, solve₄, solve₆, solve₈, from₃}
 use Rattle.algebra.proofs.Booleans.{and-split, and-join}
 use Rattle.algebra.proofs.Integers.{ℤ-ring, ℤ-ordered, positive-add, positive-mul, tri, abs-neg, abs-mul}
 use Rattle.algebra.proofs.OrderedRing as Ord

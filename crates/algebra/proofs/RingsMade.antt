@@ -1,8 +1,8 @@
 -- Two ways to make a commutative ring: pairs a + b√d over a ring, and a type with a map into a ring that loses nothing. Assumes nothing.
-use mathlib.Core.Path.{_≡_, refl, sym, _∙_, ap, ap₂}
+use mathlib.Core.Path.{_≡_, sym, _∙_, ap, ap₂}
 use Prim.Native.Nat.{ℕ, suc}
 use Rattle.algebra.specs.Ring.{Ring}
-use Rattle.algebra.proofs.RingSolver.{_:+_, _:*_, _:-_, :neg, lit, _≋_, mul-nil, solve₁, solve₂, solve₃, solve₄, solve₅, solve₆, solve₇}
+use Rattle.algebra.proofs.RingSolver.{_:+_, _:*_, _≋_, mul-nil, solve₄, solve₅, solve₆, solve₇}
 
 module _ (R : Ring) (d : R .car) where
   open Ring R using (car, zero as 𝟘, one as 𝟙, nat, add as _⊕_, mul as _⊗_, neg as ⊖, add-neg, add-zero, add-assoc, mul-comm, mul-one, add-comm, nat-zero, nat-suc)

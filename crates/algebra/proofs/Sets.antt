@@ -1,9 +1,9 @@
 -- Whether two exact numbers are the same can be decided, so they are a set. Assumes nothing.
-use mathlib.Core.Path.{_≡_, refl, ap}
+use mathlib.Core.Path.{_≡_, ap}
 use mathlib.Core.HLevel.{Discrete, hedberg}
 use Prim.Native.Nat.{ℕ}
 use native.Mathlib.Decide.{ℕ-discrete}
-use lib.IntN.{ℤ, ℤ-discrete}
+use lib.IntN.{ℤ-discrete}
 use Rattle.algebra.specs.Rational.{ℚ}
 use Rattle.algebra.specs.Exact.{Exact}
 use Rattle.algebra.proofs.Rational as Q

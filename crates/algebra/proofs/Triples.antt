@@ -1,15 +1,15 @@
 -- The operations on triples (p + q√D)/m. Assumes nothing.
 use mathlib.Core.Path.{_≡_, refl, sym, _∙_, ap, ap₂, subst}
-use Prim.Native.Nat.{ℕ, zero, suc, _*_, _<_, _≤_}
+use Prim.Native.Nat.{ℕ, zero, suc, _*_, _<_}
 use native.Mathlib.Nat as NatL
 use native.Mathlib.Omega.{arith}
-use lib.IntN.{ℤ, pos, negsuc, negℤ, natAbs, _+ℤ_, _*ℤ_}
+use lib.IntN.{ℤ, pos, negℤ, _+ℤ_, _*ℤ_}
 use Rattle.algebra.specs.Rational.{ℚ, 0ℚ, over, whole, addℚ, negq, mulℚ}
-use Rattle.algebra.specs.Exact.{Exact, Radicand, root-part, made, exact, zeroE, oneE, addE, negE, mulE, invE}
+use Rattle.algebra.specs.Exact.{Exact, root-part, made, exact, zeroE, addE, negE, mulE}
 use Rattle.algebra.specs.Laws.{Plain, Same-number}
-use Rattle.algebra.proofs.RingSolver.{_:+_, _:*_, _:-_, :neg, lit, _≋_, neg-zero, from₁, from₂, solve₁, solve₂, solve₃, solve₄, solve₅, solve₆, solve₇}
+use Rattle.algebra.proofs.RingSolver.{_:+_, _:*_, lit, _≋_, solve₁, solve₂, solve₆, solve₇}
 use Rattle.algebra.proofs.Integers.{ℤ-ring}
-use Rattle.algebra.proofs.Rational.{ℚ-ring, Is, agree, over-is, add-is, mul-is, neg-is, nat-zero, is-zero, cancel-right}
+use Rattle.algebra.proofs.Rational.{Is, agree, over-is, add-is, mul-is, neg-is, nat-zero, is-zero, cancel-right}
 use Rattle.algebra.proofs.Irrational.{is-cross}
 use Rattle.algebra.proofs.ExactRing.{parts-equal, zero-mul, kept}
 

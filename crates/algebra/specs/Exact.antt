@@ -11,7 +11,7 @@
 --   invE x            1/x, and 0 at 0
 --   PosE x            x is positive
 use mathlib.Core.Path.{_≡_}
-use mathlib.Core.Bool.{Bool, true, false, _&&_, _||_}
+use mathlib.Core.Bool.{Bool, true, _&&_, _||_}
 use mathlib.Core.Logic.{_⊎_, _≢_}
 use Prim.Native.Nat.{ℕ, zero, suc, _*_}
 use lib.Dec.{T, eqb}

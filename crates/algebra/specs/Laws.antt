@@ -8,6 +8,7 @@
 --   Positive-of-parts                    a triple is positive exactly where its parts pass that test
 --   LowestParts D p q m                  m is above 0, and p, q, m have no common divisor but 1 (and q is 0 where D is 0)
 --   Lowest-parts-unique                  triples in lowest parts that mean the same number are the same triple
+--   Lowest-parts-exist                   every exact number has one
 --   Gcd-is-greatest                      gcd and gcd₃ are the greatest common divisors
 use mathlib.Core.Path.{_≡_}
 use mathlib.Core.Logic.{_⊎_, _≢_, _↔_}
@@ -67,6 +68,9 @@ abbrev pub Lowest-parts-unique : Type 0
 Lowest-parts-unique =
     (D : ℕ) (p q : ℤ) (m : ℕ) (p′ q′ : ℤ) (m′ : ℕ) → LowestParts D p q m → LowestParts D p′ q′ m′
     → exact D p q m ≡ exact D p′ q′ m′ → (p ≡ p′) × (q ≡ q′) × (m ≡ m′)
+
+abbrev pub Lowest-parts-exist : Type 0
+Lowest-parts-exist = (D : ℕ) (x : Exact D) → (p : ℤ) × (q : ℤ) × (m : ℕ) × LowestParts D p q m × (exact D p q m ≡ x)
 
 abbrev pub Gcd-is-greatest : Type 0
 Gcd-is-greatest = ((a b : ℕ) → IsGcd a b (gcd a b)) × ((a b c : ℕ) → IsGcd₃ a b c (gcd₃ a b c))

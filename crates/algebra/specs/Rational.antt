@@ -6,7 +6,6 @@
 --   0ℚ, 1ℚ                    0 and 1
 --   addℚ, negq, mulℚ, invℚ    sum, opposite, product, and 1/x (0 at 0)
 --   Posℚ x                    x is positive
-use mathlib.Core.Path.{_≡_, refl, subst, sym}
 use mathlib.Core.Bool.{Bool, true, false, _&&_}
 use Prim.Native.Nat.{ℕ, zero, suc, _*_, _/_}
 use lib.Dec.{T, ltb, eqb}

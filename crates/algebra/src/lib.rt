@@ -1,6 +1,6 @@
 // The theory of exact numbers. The functions do nothing: the contract of each one is a theorem, which the check proves.
 ghost use Rattle.algebra.specs.Examples.{Eleven-steps, Examples};
-ghost use Rattle.algebra.specs.Laws.{Exact-is-ordered-field, Gcd-is-greatest, Lowest-parts-unique, Positive-of-parts, Same-number};
+ghost use Rattle.algebra.specs.Laws.{Exact-is-ordered-field, Gcd-is-greatest, Lowest-parts-exist, Lowest-parts-unique, Positive-of-parts, Same-number};
 
 // The exact numbers with √D are an ordered field, for D = 0 and for every D that is no square.
 pub fn exact_is_an_ordered_field() -> u8
@@ -23,9 +23,9 @@ pub fn positive_is_a_test_on_parts() -> u8
     0
 }
 
-// A number has one triple in lowest parts.
+// Every number has one triple in lowest parts.
 pub fn lowest_parts_are_unique() -> u8
-    ensures { λ _. ⌜ Lowest-parts-unique ⌝ }
+    ensures { λ _. ⌜ Lowest-parts-exist × Lowest-parts-unique ⌝ }
 {
     0
 }

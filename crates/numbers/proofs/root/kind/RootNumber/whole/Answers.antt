@@ -1,0 +1,5 @@
+use Rattle.std.proofs.shelf.Signed.{toZ-ofZ}
+use Rattle.numbers.proofs.root.kind.RootNumber.whole.Needs as need
+
+pub returns : need.returns
+returns g c = let f = c .fits .w in simp toZ-ofZ at (c .from-whole .ensures)

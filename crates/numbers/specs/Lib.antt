@@ -1,0 +1,9 @@
+pub mod Answers
+pub mod Rows
+pub mod Forms
+pub mod Steps
+pub mod Fractions
+pub mod Roots
+pub mod RootValues
+pub mod Texts
+pub mod Examples
