@@ -7,6 +7,7 @@ pub mod RowKinds
 pub mod Signs
 pub mod FractionSteps
 pub mod RootSteps
+pub mod RootSigns
 pub mod FractionKind
 pub mod RootKind
 pub mod RowTexts

@@ -17,7 +17,8 @@ use Rattle.numbers.specs.declared.Parts.{Parts}
 use Rattle.numbers.specs.Roots.{root-size}
 use Rattle.numbers.proofs.Machine.{word}
 use Rattle.numbers.proofs.RootKind.{plain}
-use Rattle.numbers.proofs.RootSteps.{conjugate, conjugate-words, both-above, both-below, p-above, q-above, positive-row, radicand-bounded, root-sizes, root-words, root-above, p-bounded, q-bounded}
+use Rattle.numbers.proofs.RootSteps.{conjugate, conjugate-words, radicand-bounded, root-sizes, root-words, root-above, p-bounded, q-bounded}
+use Rattle.numbers.proofs.RootSigns.{both-above, both-below, p-above, q-above, positive-row}
 use Rattle.numbers.proofs.root.kind.is_above_zero.Needs as need
 
 -- tests as orders
