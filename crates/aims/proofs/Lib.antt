@@ -1,0 +1,4 @@
+pub mod ShiftedForm
+pub mod Aiming
+pub mod Layered
+pub mod Shifted
