@@ -2,6 +2,7 @@
 use super::failure::*;
 use super::files;
 use super::join;
+use super::show;
 
 // The longest file of commands.
 const MOST: u64 = 65_536;
@@ -9,6 +10,8 @@ const MOST: u64 = 65_536;
 const HELP: &str = "usage: planner COMMAND [WORD ...]
 
   planner join north.feed south.feed     join operator feeds into one book of trains, and show it
+  planner show branch.line --feed north.feed
+                                         show a line with aims and feeds laid over it
   planner do morning.txt                 perform the commands of a file, one to a line
   planner help                           show this
   planner COMMAND --help                 show the usage of one command
@@ -31,6 +34,7 @@ pub fn perform(rt: &LibcRuntime, words: &[&str]) -> Result<(), Failure> {
     let asks = rest.len() == 1 && rest[0] == "--help";
     match words[0] {
         "join" => join::perform(rt, rest),
+        "show" => show::perform(rt, rest),
         "help" => {
             println!(rt, "{HELP}")?;
             Ok(())
@@ -60,10 +64,7 @@ pub fn perform_file(rt: &LibcRuntime, name: &str) -> Result<(), Failure> {
 
 // One line of a file of commands, without its comment. A line without words is passed over.
 fn perform_line(rt: &LibcRuntime, name: &str, number: usize, line: &str) -> Result<(), Failure> {
-    let command = match line.split_once('#') {
-        Some((before, _)) => before.trim(),
-        None => line.trim(),
-    };
+    let command = files::without_comment(line);
     let mut words = Vec::new(rt.alloc());
     for word in command.split_whitespace() {
         words.push(word)?;

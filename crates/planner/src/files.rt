@@ -29,3 +29,11 @@ pub fn read_text(rt: &LibcRuntime, name: &str, most: u64) -> Result<String, Fail
         Err(_) => Err(Failure::Told(format!(rt.alloc(), "{name}: the file is no text")?)),
     }
 }
+
+// A line of a file without its comment, from `#` on, and without blanks at its ends.
+pub fn without_comment(line: &str) -> &str {
+    match line.split_once('#') {
+        Some((before, _)) => before.trim(),
+        None => line.trim(),
+    }
+}

@@ -29,15 +29,19 @@ pub fn perform(rt: &LibcRuntime, names: &[&str]) -> Result<(), Failure> {
     show(rt, &book)
 }
 
-// Reads one feed into the book, and tells of it. One byte past the limit is enough to refuse a long file.
-pub fn read_feed(rt: &LibcRuntime, book: &mut Book, name: &str) -> Result<(), Failure> {
+// Reads one feed into the book, and tells of it.
+fn read_feed(rt: &LibcRuntime, book: &mut Book, name: &str) -> Result<(), Failure> {
+    let (trains, new) = take_in(rt, book, name)?;
+    println!(rt, "feed {name} trains {trains} new {new}")?;
+    Ok(())
+}
+
+// Reads one feed into the book: how many blocks it has, and how many of its trains are new. One byte past the limit is
+// enough to refuse a long file.
+pub fn take_in(rt: &LibcRuntime, book: &mut Book, name: &str) -> Result<(usize, usize), Failure> {
     let bytes = files::read_start(rt, name, feeds::MOST_BYTES as u64 + 1)?;
     match book.read(&bytes) {
-        Ok(new) => {
-            let trains = feed_lines::blocks_in(&bytes);
-            println!(rt, "feed {name} trains {trains} new {new}")?;
-            Ok(())
-        }
+        Ok(new) => Ok((feed_lines::blocks_in(&bytes), new)),
         Err(fault) => Err(Failure::Told(format!(rt.alloc(), "{name}: {fault}")?)),
     }
 }

@@ -6,6 +6,8 @@ mod commands;
 mod failure;
 mod files;
 mod join;
+mod linefile;
+mod show;
 
 fn main(rt: LibcRuntime) -> Result<(), Failure> {
     match run(&rt) {
