@@ -1,3 +1,5 @@
+#![tactic(auto)]
+
 // A layer over any line by which the cost is taken at the lateness less an aim.
 mod constant;
 mod entries;

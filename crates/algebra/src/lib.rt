@@ -1,3 +1,5 @@
+#![tactic(auto)]
+
 // The theory of exact numbers. The functions do nothing: the contract of each one is a theorem, which the check proves.
 ghost use Rattle.algebra.specs.Examples.{ElevenSteps, Examples};
 ghost use Rattle.algebra.specs.Laws.{ExactIsOrderedField, GcdIsGreatest, LowestPartsExist, LowestPartsUnique, PositiveOfParts, SameNumber};

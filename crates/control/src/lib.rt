@@ -1,3 +1,5 @@
+#![tactic(auto)]
+
 // The theory of the best plan, over any ordered field: nothing here speaks of machine numbers.
 //
 // A line has stops 0 to N. At each stop the lateness x (nx numbers) and the adjustments u (nu numbers) give the next lateness by a linear

@@ -1,3 +1,5 @@
+#![tactic(auto)]
+
 // Reads cases from standard input, one to a line, and prints what a book answers to each:
 //   new                 a new book
 //   read FEED           a feed, with \n, \r, \t, \\ and \xHH for bytes that a line cannot show

@@ -1,3 +1,5 @@
+#![tactic(auto)]
+
 // The lines of a feed, read as values, a header and blocks.
 ghost use Rattle.std.specs.Prelude.{◌≡◌, length};
 ghost use Rattle.feed_types.specs.Text.{Feed, Good, ends, text};

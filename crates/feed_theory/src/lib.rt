@@ -1,3 +1,5 @@
+#![tactic(auto)]
+
 // The theory of feeds: two good feeds with one text are the same feed, and what every list of feeds leaves in a book.
 // The functions carry the theorems in their contracts.
 ghost use Rattle.feed_types.specs.History.{OneText, EveryHistory};

@@ -1,3 +1,5 @@
+#![tactic(auto)]
+
 // What a feed is: its sizes, trains, labels, keys and refusals, and in specs/ its one text and what reading it means.
 pub mod faults;
 pub mod keys;

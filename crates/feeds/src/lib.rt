@@ -1,3 +1,5 @@
+#![tactic(auto)]
+
 // The book of trains that operator feeds are joined into.
 pub mod book;
 

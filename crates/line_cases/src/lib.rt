@@ -1,3 +1,5 @@
+#![tactic(auto)]
+
 // A line of another crate under the layers: it tells any sizes that its type holds.
 ghost use Rattle.std.specs.Prelude.{◌≡◌};
 ghost use Rattle.line_cases.specs.Bare.{bare_line, zeros};

@@ -1,3 +1,5 @@
+#![tactic(auto)]
+
 // Lines of stops: one contract for every line, and the lines that are supplied.
 pub mod faults;
 pub mod kinds;

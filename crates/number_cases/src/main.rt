@@ -1,3 +1,5 @@
+#![tactic(auto)]
+
 // Works out the cases of a table and compares each answer with the one written there.
 //
 // A line has five words: the kind (`fraction`, `root3`, `root5`), the operation (`plus`, `minus`, `times`, `over`, `positive`,

@@ -1,3 +1,5 @@
+#![tactic(auto)]
+
 // Worked examples of exact numbers, as tests: a crate of their own, since a crate with tests is proved twice.
 #[cfg(test)]
 mod tests {

@@ -1,3 +1,5 @@
+#![tactic(auto)]
+
 // Numbers from text: the reader of what numbers are printed as.
 ghost use Rattle.std.specs.Prelude.{◌≡◌, ◌≢◌, MatchBool};
 ghost use Rattle.number_text.specs.Readings.{Reads, ReadsBack, Short};

@@ -1,3 +1,5 @@
+#![tactic(auto)]
+
 // Exact numbers in one machine word for each part.
 ghost use Rattle.std.specs.Prelude.{◌≡◌, ℕ, ◌≤◌, ◌≢◌, ℤ, pos, unsigned_abs};
 ghost use Rattle.algebra.specs.Exact.{Exact, Radicand as GoodRadicand, zero_e, whole_e, add_e, neg_e, mul_e, PosE};

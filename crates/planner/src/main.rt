@@ -1,3 +1,5 @@
+#![tactic(auto)]
+
 // The planner's program: files and commands in, a report out. What it performs is in the libraries.
 use failure::*;
 use std::env;

@@ -1,3 +1,5 @@
+#![tactic(auto)]
+
 // The trail of a study, from the start on, and the costs along it.
 mod begin;
 mod confirm;

@@ -1,3 +1,5 @@
+#![tactic(auto)]
+
 // The plan at a stop and the excess of the adjustments made: both are worked with gaps, an adjustment plus the sum that its factors
 // make of what comes after it.
 mod checks;

@@ -1,3 +1,5 @@
+#![tactic(auto)]
+
 // Lists of commands, performed as a run of a study.
 pub mod answers;
 pub mod commands;

@@ -1,3 +1,5 @@
+#![tactic(auto)]
+
 // The law over the runs of a study. The function does nothing: it carries the theorem in its contract, for every line.
 ghost use Rattle.study_theory.specs.Law.{StudyLaw};
 

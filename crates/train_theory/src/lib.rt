@@ -1,3 +1,5 @@
+#![tactic(auto)]
+
 // The theory of feeds and lines together: what the feeds that a book was given make of the costs of a line.
 // The function carries the theorem in its contract. What the words mean is in specs/, which specs/Lib.antt lists.
 ghost use Rattle.train_theory.specs.Weighing.{TrainsWeighOnce};

@@ -1,3 +1,5 @@
+#![tactic(auto)]
+
 // A layer over any line that adds to a stop's cost what each train of a book weighs there.
 mod entries;
 pub mod faults;

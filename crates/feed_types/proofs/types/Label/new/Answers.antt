@@ -20,7 +20,7 @@ loop-i-preserved c =
       ap (λ (l : List ℕ). set l i (get_or bs i 0)) c.loop-i.invariant.0
           ∙ fill 0 8 i (take i bs) (get_or bs i 0) (omega arith) long
           ∙ ap (λ (l : List ℕ). l ++ replicate (8 - (i + 1)) 0) (sym (take_more bs i 0 lt)),
-      All-more (λ b. letter b ≡ true) bs i 0 lt c.loop-i.invariant.1 (sym c.if-not-is-letter.ensures),
+      All-more (λ b. letter b ≡ true) bs i 0 lt c.loop-i.invariant.1 (sym c.if-not-is_letter.ensures),
     )
 
 pub returns : goal.returns
@@ -32,7 +32,7 @@ returns c =
     let filled : c.loop-i.bytes ≡ bs ++ replicate (8 - length bs) 0 = c.loop-i.invariant.0 ∙ ap (λ (l : List ℕ). l ++ replicate (8 - c.loop-i.i) 0) whole ∙ ap (λ (n : ℕ). bs ++ replicate (8 - n) 0) at_end in
     let same : unpadded c.loop-i.bytes ≡ bs = ap unpadded filled ∙ unpadded_padded bs (8 - length bs) all in (
       record {
-        text = subst LabelText (sym same) (record { some = omega (arith, eqb-false (length bs) 0 (sym c.if-is-empty.ensures)); few = c.if-text-gt8.false; letters = all });
+        text = subst LabelText (sym same) (record { some = omega (arith, eqb-false (length bs) 0 (sym c.if-is_empty.ensures)); few = c.if-text-gt8.false; letters = all });
         padded = filled ∙ ap (λ (l : List ℕ). l ++ replicate (8 - length l) 0) (sym same);
       },
       same,
