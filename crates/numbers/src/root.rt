@@ -1,8 +1,9 @@
 // Numbers with a root.
-ghost use Rattle.std.specs.Prelude.{T};
+ghost use Rattle.std.specs.Prelude.{◌≡◌, T, ⊤};
 ghost use Rattle.numbers.specs.Forms.{has_form};
 
 use crate::Parts;
+use std::alloc::AllocError;
 use std::marker::PhantomData;
 
 mod kind;
@@ -17,6 +18,16 @@ pub struct Root<R> {
     row: Parts,
     radicand: PhantomData<R>,
     ghost form: { T (has_form 262143 row) },
+}
+
+impl<R> Clone for Root<R> {
+    ghost is_clone = { λ x y. y ≡ x };
+
+    ghost is_infallible = { λ _. ⊤ };
+
+    fn clone(&self) -> Result<Self, AllocError> {
+        Ok(*self)
+    }
 }
 
 impl<R> Copy for Root<R> {}

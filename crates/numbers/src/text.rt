@@ -9,7 +9,7 @@ use crate::{Fraction, Number, Parts, Radicand, Root};
 use std::fmt;
 
 fn write_row<W: fmt::Write>(row: Parts, d: i64, f: &mut fmt::Formatter<W>) -> fmt::Result
-    ensures { WritesOnOk write_str_gives f.old result (number_text d row) f.new }
+    ensures { WritesOnOk W.write_str_gives f.old result (number_text d row) f.new }
 {
     let p = row.p;
     let q = row.q;

@@ -4,17 +4,17 @@ use Rattle.std.proofs.lemmas.List.{get_or_past}
 use Rattle.lines.specs.Whole.{Small, cell}
 use Rattle.lines.proofs.reading.first_beyond.Goals as goal
 
-pub returns-then-not-is-small : goal.returns-then-not-is-small
-returns-then-not-is-small c = record {
+pub returns-then-not-is_small : goal.returns-then-not-is_small
+returns-then-not-is_small c = record {
   from = omega arith;
   inside = omega arith;
-  beyond = λ s. let e : c.is-small.result ≡ true = c.is-small.ensures.1 s in search rules;
+  beyond = λ s. let e : c.is_small.result ≡ true = c.is_small.ensures.1 s in search rules;
   before = c.loop-i.invariant;
 }
 
 pub loop-i-preserved : goal.loop-i-preserved
 loop-i-preserved c = λ k h l.
-    below_more (λ (j : ℕ). c.args.from ≤ j → Small (cell c.args.numbers.now j)) c.loop-i.i (λ j m g. c.loop-i.invariant j g m) (λ g. c.is-small.ensures.0 (search rules)) k l h
+    below_more (λ (j : ℕ). c.args.from ≤ j → Small (cell c.args.numbers.now j)) c.loop-i.i (λ j m g. c.loop-i.invariant j g m) (λ g. c.is_small.ensures.0 (search rules)) k l h
 
 pub returns : goal.returns
 returns c = λ i h.

@@ -4,11 +4,11 @@ use Rattle.number_text.specs.Spelling.{Natural}
 use Rattle.number_text.proofs.Numerals.{natural_bound, minus_natural}
 use Rattle.number_text.proofs.digits.minus.Goals as goal
 
-pub overflow-cast-result : goal.overflow-cast-result
-overflow-cast-result c = let b = natural_bound _ c.in-Some.n c.in-Some.ensures in omega (arith, ints)
+pub overflow_cast-result : goal.overflow_cast-result
+overflow_cast-result c = let b = natural_bound _ c.in-Some.n c.in-Some.ensures in omega (arith, ints)
 
-pub overflow-sub-result : goal.overflow-sub-result
-overflow-sub-result c = let b = natural_bound _ c.in-Some.n c.in-Some.ensures in omega (arith, ints)
+pub overflow_sub-result : goal.overflow_sub-result
+overflow_sub-result c = let b = natural_bound _ c.in-Some.n c.in-Some.ensures in omega (arith, ints)
 
 pub returns-in-Some : goal.returns-in-Some
 returns-in-Some c =

@@ -15,11 +15,11 @@ small bs i n l h e d =
     let b : digits_value 10 (take i bs) < 10 ^ 17 = value_bound (take i bs) 17 d t in
     subst (λ k. k < 10 ^ 17) (sym e) b
 
-pub overflow-mul-n : goal.overflow-mul-n
-overflow-mul-n c = let s = small c.args.text.now c.loop-b.b-index c.loop-b.n c.loop-b-test.true c.if-text-gt18.false c.loop-b.invariant.0 c.loop-b.invariant.1 in omega arith
+pub overflow_mul-n : goal.overflow_mul-n
+overflow_mul-n c = let s = small c.args.text.now c.loop-b.b-index c.loop-b.n c.loop-b-test.true c.if-text-gt18.false c.loop-b.invariant.0 c.loop-b.invariant.1 in omega arith
 
-pub overflow-add-n : goal.overflow-add-n
-overflow-add-n c = let s = small c.args.text.now c.loop-b.b-index c.loop-b.n c.loop-b-test.true c.if-text-gt18.false c.loop-b.invariant.0 c.loop-b.invariant.1 in omega arith
+pub overflow_add-n : goal.overflow_add-n
+overflow_add-n c = let s = small c.args.text.now c.loop-b.b-index c.loop-b.n c.loop-b-test.true c.if-text-gt18.false c.loop-b.invariant.0 c.loop-b.invariant.1 in omega arith
 
 pub loop-b-preserved : goal.loop-b-preserved
 loop-b-preserved c =
@@ -34,7 +34,7 @@ returns c =
     let e : take c.loop-b.b-index bs ≡ bs = take_whole bs c.loop-b.b-index (omega arith) in
     record {
       digits = subst (AllDigits 10) e c.loop-b.invariant.1;
-      some = nonempty bs c.if-is-empty.ensures;
+      some = nonempty bs c.if-is_empty.ensures;
       few = c.if-text-gt18.false;
       is = c.loop-b.invariant.0 ∙ ap (digits_value 10) e;
     }

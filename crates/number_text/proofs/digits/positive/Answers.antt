@@ -3,8 +3,8 @@ use Rattle.std.proofs.lemmas.Int.{ints, to_z_pos}
 use Rattle.number_text.proofs.Numerals.{natural_bound}
 use Rattle.number_text.proofs.digits.positive.Goals as goal
 
-pub overflow-cast-result : goal.overflow-cast-result
-overflow-cast-result c = let b = natural_bound c.args.text.now c.in-Some.n c.in-Some.ensures in omega (arith, ints)
+pub overflow_cast-result : goal.overflow_cast-result
+overflow_cast-result c = let b = natural_bound c.args.text.now c.in-Some.n c.in-Some.ensures in omega (arith, ints)
 
 pub returns-in-Some : goal.returns-in-Some
 returns-in-Some c =

@@ -6,9 +6,9 @@ use Rattle.number_text.proofs.marks.below.Goals as goal
 inner : (bs ds : List ℕ) (m : ℕ) → bs ≡ 41 ∷ (47 ∷ ds) → Below bs m → Natural ds m × (0 < m)
 inner bs ds m e (u, f, n, o) = let same : u ≡ ds = cc in (subst (λ x. Natural x m) same n, o)
 
-pub returns-in-default-natural : goal.returns-in-default-natural
-returns-in-default-natural c m h =
-    c.in-default-natural.ensures m (inner c.args.text.now c.in-Some-strip.digits.now m (c.in-Some.ensures ∙ ap (λ x. 41 ∷ x) c.in-Some-strip.ensures) h).0
+pub returns-in_default-natural : goal.returns-in_default-natural
+returns-in_default-natural c m h =
+    c.in_default-natural.ensures m (inner c.args.text.now c.in-Some-strip.digits.now m (c.in-Some.ensures ∙ ap (λ x. 41 ∷ x) c.in-Some-strip.ensures) h).0
 
 pub returns-then-m-eq0 : goal.returns-then-m-eq0
 returns-then-m-eq0 c m h =

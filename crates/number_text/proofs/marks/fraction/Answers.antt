@@ -4,17 +4,17 @@ use Rattle.number_text.specs.Spelling.{Whole, Natural}
 use Rattle.number_text.proofs.Numerals.{natural_bound, natural_unique}
 use Rattle.number_text.proofs.marks.fraction.Goals as goal
 
-pub returns-in-default : goal.returns-in-default
-returns-in-default c p m h = c.in-default.ensures p h.0
+pub returns-in_default : goal.returns-in_default
+returns-in_default c p m h = c.in_default.ensures p h.0
 
-pub returns-in-default-natural : goal.returns-in-default-natural
-returns-in-default-natural c p m h = c.in-default-natural.ensures m h.1
+pub returns-in_default-natural : goal.returns-in_default-natural
+returns-in_default-natural c p m h = c.in_default-natural.ensures m h.1
 
 pub returns-then-m-eq0 : goal.returns-then-m-eq0
 returns-then-m-eq0 c p m h = let e = natural_unique c.args.below.now m c.in-Some-natural.m h.1 c.in-Some-natural.ensures in let n = h.2 in let z = c.if-m-eq0.true in omega arith
 
-pub overflow-cast-result : goal.overflow-cast-result
-overflow-cast-result c = let b = natural_bound c.args.below.now c.in-Some-natural.m c.in-Some-natural.ensures in omega (arith, ints)
+pub overflow_cast-result : goal.overflow_cast-result
+overflow_cast-result c = let b = natural_bound c.args.below.now c.in-Some-natural.m c.in-Some-natural.ensures in omega (arith, ints)
 
 pub returns : goal.returns
 returns c =

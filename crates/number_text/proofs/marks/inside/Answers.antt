@@ -4,10 +4,10 @@ use Rattle.number_text.specs.Readings.{PairAnswer}
 use Rattle.number_text.proofs.Shapes.{carry_pair, inside_parts, parts_inside, under_unique}
 use Rattle.number_text.proofs.marks.inside.Goals as goal
 
-pub returns-in-default : goal.returns-in-default
-returns-in-default c p q h =
+pub returns-in_default : goal.returns-in_default
+returns-in_default c p q h =
     let k = inside_parts c.args.d c.args.text.now c.first-root.result p q c.first-root.ensures h in
-    c.in-default.ensures c.args.d (subst (λ x. UnderRoot x c.args.d) (sym c.after.ensures) k.1)
+    c.in_default.ensures c.args.d (subst (λ x. UnderRoot x c.args.d) (sym c.after.ensures) k.1)
 
 pub returns-then-n-d : goal.returns-then-n-d
 returns-then-n-d c p q h =

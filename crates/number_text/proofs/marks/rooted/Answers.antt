@@ -5,18 +5,18 @@ use Rattle.number_text.proofs.Numerals.{natural_bound}
 use Rattle.number_text.proofs.Shapes.{rooted_parts, parts_rooted}
 use Rattle.number_text.proofs.marks.rooted.Goals as goal
 
-pub returns-in-default-inside : goal.returns-in-default-inside
-returns-in-default-inside c p q m h =
+pub returns-in_default-inside : goal.returns-in_default-inside
+returns-in_default-inside c p q m h =
     let k = rooted_parts c.args.d c.args.text.now c.in-Some.rest.now c.first-close.result p q m c.in-Some.ensures c.first-close.ensures h in
-    c.in-default-inside.ensures p q (subst (λ x. Inside c.args.d x p q) (sym c.before-2.ensures) k.0)
+    c.in_default-inside.ensures p q (subst (λ x. Inside c.args.d x p q) (sym c.before-2.ensures) k.0)
 
-pub returns-in-default-below : goal.returns-in-default-below
-returns-in-default-below c p q m h =
+pub returns-in_default-below : goal.returns-in_default-below
+returns-in_default-below c p q m h =
     let k = rooted_parts c.args.d c.args.text.now c.in-Some.rest.now c.first-close.result p q m c.in-Some.ensures c.first-close.ensures h in
-    c.in-default-below.ensures m (subst (λ x. Below x m) (sym c.after.ensures) k.1)
+    c.in_default-below.ensures m (subst (λ x. Below x m) (sym c.after.ensures) k.1)
 
-pub overflow-cast-result : goal.overflow-cast-result
-overflow-cast-result c = let h = c.in-Some-below.ensures in let b = natural_bound h.0 c.in-Some-below.m h.2 in omega (arith, ints)
+pub overflow_cast-result : goal.overflow_cast-result
+overflow_cast-result c = let h = c.in-Some-below.ensures in let b = natural_bound h.0 c.in-Some-below.m h.2 in omega (arith, ints)
 
 pub returns : goal.returns
 returns c =

@@ -16,7 +16,7 @@ returns c =
     let ps = s.p_size in let qs = s.q_size in let r = c.requires.room in
     let p : to_z w64 (of_z w64 (pos 0 -ℤ to_z w64 (of_z w64 row.p))) ≡ neg_ℤ row.p = omega (arith, ints) in
     let q : to_z w64 (of_z w64 (pos 0 -ℤ to_z w64 (of_z w64 row.q))) ≡ neg_ℤ row.q = omega (arith, ints) in
-    let m : to_z w64 (of_z w64 row.m) ≡ row.m = word row.m w.m-fits in
+    let m : to_z w64 (of_z w64 row.m) ≡ row.m = word row.m w.m_fits in
     let same : ◌≡◌ {A = Parts} _ (raw_opposite row) = λ i. record { p = p i; q = q i; m = m i } in
     record {
       formed = subst (λ (z : Parts). T (has_form c.args.size z)) (sym same) (opposite_form c.args.size row c.requires.formed);

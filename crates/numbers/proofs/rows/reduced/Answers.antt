@@ -19,29 +19,29 @@ returns-then-raw-eq0-2 c =
     let q : raw.q ≡ pos 0 = omega (arith, ints) in
     zero_lowest raw c.requires p q
 
-pub nonzero-div-result : goal.nonzero-div-result
-nonzero-div-result c =
+pub nonzero_div-result : goal.nonzero_div-result
+nonzero_div-result c =
     let f : SFits w64 c.args.raw.p = search rules in
-    let k : SFits w64 c.divisor-of-divisor.result = search rules in
-    divides_well c.args.raw.p c.divisor-of-divisor.result (divisor c.args.raw) f k c.divisor-of-divisor.ensures (divisor_above c.args.raw c.requires)
+    let k : SFits w64 c.divisor_of-divisor.result = search rules in
+    divides_well c.args.raw.p c.divisor_of-divisor.result (divisor c.args.raw) f k c.divisor_of-divisor.ensures (divisor_above c.args.raw c.requires)
 
-pub nonzero-div-result-2 : goal.nonzero-div-result-2
-nonzero-div-result-2 c =
+pub nonzero_div-result-2 : goal.nonzero_div-result-2
+nonzero_div-result-2 c =
     let f : SFits w64 c.args.raw.q = search rules in
-    let k : SFits w64 c.divisor-of-divisor.result = search rules in
-    divides_well c.args.raw.q c.divisor-of-divisor.result (divisor c.args.raw) f k c.divisor-of-divisor.ensures (divisor_above c.args.raw c.requires)
+    let k : SFits w64 c.divisor_of-divisor.result = search rules in
+    divides_well c.args.raw.q c.divisor_of-divisor.result (divisor c.args.raw) f k c.divisor_of-divisor.ensures (divisor_above c.args.raw c.requires)
 
-pub nonzero-div-result-3 : goal.nonzero-div-result-3
-nonzero-div-result-3 c =
+pub nonzero_div-result-3 : goal.nonzero_div-result-3
+nonzero_div-result-3 c =
     let f : SFits w64 c.args.raw.m = search rules in
-    let k : SFits w64 c.divisor-of-divisor.result = search rules in
-    divides_well c.args.raw.m c.divisor-of-divisor.result (divisor c.args.raw) f k c.divisor-of-divisor.ensures (divisor_above c.args.raw c.requires)
+    let k : SFits w64 c.divisor_of-divisor.result = search rules in
+    divides_well c.args.raw.m c.divisor_of-divisor.result (divisor c.args.raw) f k c.divisor_of-divisor.ensures (divisor_above c.args.raw c.requires)
 
 pub returns : goal.returns
 returns c =
     let raw = c.args.raw in
-    let r = c.divisor-of-divisor.result in
-    let e = c.divisor-of-divisor.ensures in
+    let r = c.divisor_of-divisor.result in
+    let e = c.divisor_of-divisor.ensures in
     let fp : SFits w64 raw.p = search rules in
     let fq : SFits w64 raw.q = search rules in
     let fm : SFits w64 raw.m = search rules in

@@ -3,8 +3,8 @@ use Rattle.std.proofs.lemmas.Int.{to_z-of_z}
 use Rattle.numbers.specs.Bounds.{product_fits}
 use Rattle.numbers.proofs.words.times.Goals as goal
 
-pub overflow-mul-result : goal.overflow-mul-result
-overflow-mul-result c =
+pub overflow_mul-result : goal.overflow_mul-result
+overflow_mul-result c =
     let fx = c.ranges.x in
     let fy = c.ranges.y in
     simp to_z-of_z (product_fits c.args.x c.args.y c.requires)

@@ -4,8 +4,8 @@ use Rattle.numbers.specs.Machine.{word}
 use Rattle.numbers.specs.Signs.{sign_below, sign_above}
 use Rattle.numbers.proofs.words.turned.Goals as goal
 
-pub overflow-sub-result : goal.overflow-sub-result
-overflow-sub-result c = let f = c.ranges.x in let r = c.requires in omega (arith, ints)
+pub overflow_sub-result : goal.overflow_sub-result
+overflow_sub-result c = let f = c.ranges.x in let r = c.requires in omega (arith, ints)
 
 pub returns-then-by-lt0 : goal.returns-then-by-lt0
 returns-then-by-lt0 c =

@@ -3,8 +3,8 @@ use Rattle.std.proofs.lemmas.Int.{to_z-of_z}
 use Rattle.numbers.specs.Bounds.{products_fit, products_bound}
 use Rattle.numbers.proofs.words.two_products.Goals as goal
 
-pub overflow-add-result : goal.overflow-add-result
-overflow-add-result c =
+pub overflow_add-result : goal.overflow_add-result
+overflow_add-result c =
     let fa = c.ranges.a in
     let fb = c.ranges.b in
     let fc = c.ranges.c in

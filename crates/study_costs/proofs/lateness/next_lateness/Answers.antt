@@ -26,7 +26,7 @@ loop-j-preserved g c =
     let long = c.loop-j.invariant.0 in
     let l : c.loop-j.j < length c.loop-j.rows = omega arith in (
       length-set c.loop-j.rows c.loop-j.j c.row.result ∙ long,
-      worked_more N (numbers g c.args.line.now c.args.at c.args.made.now (at N c.from-lateness-lateness.result.now)) c.loop-j.j c.loop-j.rows
+      worked_more N (numbers g c.args.line.now c.args.at c.args.made.now (at N c.from_lateness-lateness.result.now)) c.loop-j.j c.loop-j.rows
           c.in-Ok.x c.row.result l c.loop-j.invariant.1 c.in-Ok.ensures c.row.ensures,
     )
 
@@ -35,7 +35,7 @@ returns-in-Err g c =
     let N = g.Number.Number in
     let f = numbers g c.args.line.now c.args.at c.args.made.now in
     let b = c.in-Err.field-0 in
-    let e = lateness_read N (shape c.args.at.sizes) c.args.trail.now c.args.at.stop c.from-lateness-lateness.result.now c.from-lateness-lateness.ensures in
+    let e = lateness_read N (shape c.args.at.sizes) c.args.trail.now c.args.at.stop c.from_lateness-lateness.result.now c.from_lateness-lateness.ensures in
     let w = subst (λ x. WorkedRows N (f x) c.loop-j.j c.loop-j.rows) e c.loop-j.invariant.1 in
     let h = subst (λ x. Outcome N (f x c.loop-j.j) (Err b)) e c.in-Err.ensures in
     (c.loop-j.j, omega arith, c.loop-j-test.true, (λ i _ l. (w i l).0), (b, refl, h))
@@ -44,7 +44,7 @@ pub returns : goal.returns
 returns g c =
     let N = g.Number.Number in
     let f = numbers g c.args.line.now c.args.at c.args.made.now in
-    let e = lateness_read N (shape c.args.at.sizes) c.args.trail.now c.args.at.stop c.from-lateness-lateness.result.now c.from-lateness-lateness.ensures in
+    let e = lateness_read N (shape c.args.at.sizes) c.args.trail.now c.args.at.stop c.from_lateness-lateness.result.now c.from_lateness-lateness.ensures in
     let n : c.loop-j.j ≡ c.args.at.sizes.states = omega arith in
     subst (λ n. WorkedRows N (f (x_at N (shape c.args.at.sizes) c.args.trail.now c.args.at.stop)) n c.loop-j.rows) n
     (subst (λ x. WorkedRows N (f x) c.loop-j.j c.loop-j.rows) e c.loop-j.invariant.1)

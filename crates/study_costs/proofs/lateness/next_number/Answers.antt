@@ -26,33 +26,33 @@ loop-c-preserved g c =
     let M = entries g c.args.line.now c.args.stop c.args.row in
     let z = list g c.args.sizes c.args.made.now c.args.lateness.now in
     let e = (g.L.Line.meaning c.args.line.now).F c.args.stop c.args.row c.loop-c.c in
-    product_more N (known (field N).𝟘) M z c.loop-c.c c.loop-c.total c.in-ok-entry.entry c.stacked-entry-factor.result c.in-ok-total.total
-    c.loop-c.invariant (asked_ok N e c.in-ok-entry.entry c.in-ok-entry.ensures) c.stacked-entry-factor.ensures c.in-ok-total.ensures
+    product_more N (known (field N).𝟘) M z c.loop-c.c c.loop-c.total c.in_ok-entry.entry c.stacked_entry-factor.result c.in_ok-total.total
+    c.loop-c.invariant (asked_ok N e c.in_ok-entry.entry c.in_ok-entry.ensures) c.stacked_entry-factor.ensures c.in_ok-total.ensures
 
-pub returns-in-err-entry : goal.returns-in-err-entry
-returns-in-err-entry g c =
+pub returns-in_err-entry : goal.returns-in_err-entry
+returns-in_err-entry g c =
     let N = g.Number.Number in
     let M = entries g c.args.line.now c.args.stop c.args.row in
     let z = list g c.args.sizes c.args.made.now c.args.lateness.now in
     let e = (g.L.Line.meaning c.args.line.now).F c.args.stop c.args.row c.loop-c.c in
-    let b = Marked c.in-err-entry.field-0.0.mark in
+    let b = Marked c.in_err-entry.field-0.0.mark in
     let w = width (shape c.args.sizes) in
     exits N (sums (known (field N).𝟘) w (λ j. times (M j) (known (z j)))) c.from-residual.result b c.from-residual.ensures.1
     (factor_fault N (known (field N).𝟘) M z c.loop-c.c w c.loop-c.total b (subst (λ n. c.loop-c.c < n) c.wide-c-end.ensures (omega arith)) c.loop-c.invariant
-    (asked_err N e c.in-err-entry.field-0.0.mark c.in-err-entry.ensures))
+    (asked_err N e c.in_err-entry.field-0.0.mark c.in_err-entry.ensures))
 
-pub returns-in-err-total : goal.returns-in-err-total
-returns-in-err-total g c =
+pub returns-in_err-total : goal.returns-in_err-total
+returns-in_err-total g c =
     let N = g.Number.Number in
     let M = entries g c.args.line.now c.args.stop c.args.row in
     let z = list g c.args.sizes c.args.made.now c.args.lateness.now in
     let e = (g.L.Line.meaning c.args.line.now).F c.args.stop c.args.row c.loop-c.c in
-    let b = c.in-err-total.field-0.0 in
+    let b = c.in_err-total.field-0.0 in
     let w = width (shape c.args.sizes) in
-    exits N (sums (known (field N).𝟘) w (λ j. times (M j) (known (z j)))) c.from-residual-in-err-total.result b c.from-residual-in-err-total.ensures.1
-    (product_fault N (known (field N).𝟘) M z c.loop-c.c w c.loop-c.total c.in-ok-entry.entry c.stacked-entry-factor.result b
+    exits N (sums (known (field N).𝟘) w (λ j. times (M j) (known (z j)))) c.from-residual-in_err-total.result b c.from-residual-in_err-total.ensures.1
+    (product_fault N (known (field N).𝟘) M z c.loop-c.c w c.loop-c.total c.in_ok-entry.entry c.stacked_entry-factor.result b
     (subst (λ n. c.loop-c.c < n) c.wide-c-end.ensures (omega arith)) c.loop-c.invariant
-    (asked_ok N e c.in-ok-entry.entry c.in-ok-entry.ensures) c.stacked-entry-factor.ensures c.in-err-total.ensures)
+    (asked_ok N e c.in_ok-entry.entry c.in_ok-entry.ensures) c.stacked_entry-factor.ensures c.in_err-total.ensures)
 
 pub returns : goal.returns
 returns g c =

@@ -10,15 +10,15 @@ pub returns-in-Ok : goal.returns-in-Ok
 returns-in-Ok g c =
     let m = g.L.Line.meaning c.args.line.now in
     let s = shape c.args.at.sizes in
-    let same = told_true _ _ c.are-of.ensures c.if-not-are-of.false in
+    let same = told_true _ _ c.are_of.ensures c.if-not-are_of.false in
     record {
-      passes = (same, (long_enough _ _ _ c.trail-length.ensures c.if-trail-trail-length.false, c.in-Ok.ensures.0));
+      passes = (same, (long_enough _ _ _ c.trail_length.ensures c.if-trail-trail_length.false, c.in-Ok.ensures.0));
       answer = subst (λ y. g.Number.Number.value c.in-Ok.x ≡ y) (paid_number g.Number.Number m s (same_shapes (shape_of m) s same) c.args.trail.now c.args.at.stop) c.in-Ok.ensures.1;
     }
 
 pub returns-in-Err : goal.returns-in-Err
 returns-in-Err g c =
     inr (
-      told_true _ _ c.are-of.ensures c.if-not-are-of.false,
-      inr (long_enough _ _ _ c.trail-length.ensures c.if-trail-trail-length.false, (c.in-Err.field-0, refl, c.in-Err.ensures)),
+      told_true _ _ c.are_of.ensures c.if-not-are_of.false,
+      inr (long_enough _ _ _ c.trail_length.ensures c.if-trail-trail_length.false, (c.in-Err.field-0, refl, c.in-Err.ensures)),
     )

@@ -31,9 +31,9 @@ loop-c-preserved g c =
     let z = list g c.args.sizes c.args.adjustments.now c.args.lateness.now in
     let e = (g.L.Line.meaning c.args.line.now).G c.args.stop c.loop-a.a c.loop-c.c in
     term_more N c.wide-wide.result M z c.loop-a.a c.loop-c.c
-    c.loop-c.total c.in-ok-entry.entry c.stacked-entry-left.result c.stacked-entry-right.result c.in-ok-total.total
-    c.loop-c.invariant (asked_ok N e c.in-ok-entry.entry c.in-ok-entry.ensures)
-    c.stacked-entry-left.ensures c.stacked-entry-right.ensures c.in-ok-total.ensures
+    c.loop-c.total c.in_ok-entry.entry c.stacked_entry-left.result c.stacked_entry-right.result c.in_ok-total.total
+    c.loop-c.invariant (asked_ok N e c.in_ok-entry.entry c.in_ok-entry.ensures)
+    c.stacked_entry-left.ensures c.stacked_entry-right.ensures c.in_ok-total.ensures
 
 pub loop-a-preserved : goal.loop-a-preserved
 loop-a-preserved g c =
@@ -41,31 +41,31 @@ loop-a-preserved g c =
     let z = list g c.args.sizes c.args.adjustments.now c.args.lateness.now in
     row_more g.Number.Number c.wide-wide.result M z c.loop-a.a c.loop-c.c c.loop-c.total (omega arith) c.loop-c.invariant
 
-pub returns-in-err-entry : goal.returns-in-err-entry
-returns-in-err-entry g c =
+pub returns-in_err-entry : goal.returns-in_err-entry
+returns-in_err-entry g c =
     let N = g.Number.Number in
     let M = entries g c.args.line.now c.args.stop in
     let z = list g c.args.sizes c.args.adjustments.now c.args.lateness.now in
     let e = (g.L.Line.meaning c.args.line.now).G c.args.stop c.loop-a.a c.loop-c.c in
-    let b = Marked c.in-err-entry.field-0.0.mark in
+    let b = Marked c.in_err-entry.field-0.0.mark in
     exits N (form_formula N (width (shape c.args.sizes)) M z) c.from-residual.result b c.from-residual.ensures.1
     (subst (λ w. FirstFault N (form_formula N w M z) b) c.wide-wide.ensures
     (entry_fault N c.wide-wide.result M z c.loop-a.a c.loop-c.c c.loop-c.total b (omega arith) (omega arith) c.loop-c.invariant
-    (asked_err N e c.in-err-entry.field-0.0.mark c.in-err-entry.ensures)))
+    (asked_err N e c.in_err-entry.field-0.0.mark c.in_err-entry.ensures)))
 
-pub returns-in-err-total : goal.returns-in-err-total
-returns-in-err-total g c =
+pub returns-in_err-total : goal.returns-in_err-total
+returns-in_err-total g c =
     let N = g.Number.Number in
     let M = entries g c.args.line.now c.args.stop in
     let z = list g c.args.sizes c.args.adjustments.now c.args.lateness.now in
     let e = (g.L.Line.meaning c.args.line.now).G c.args.stop c.loop-a.a c.loop-c.c in
-    let b = c.in-err-total.field-0.0 in
-    exits N (form_formula N (width (shape c.args.sizes)) M z) c.from-residual-in-err-total.result b c.from-residual-in-err-total.ensures.1
+    let b = c.in_err-total.field-0.0 in
+    exits N (form_formula N (width (shape c.args.sizes)) M z) c.from-residual-in_err-total.result b c.from-residual-in_err-total.ensures.1
     (subst (λ w. FirstFault N (form_formula N w M z) b) c.wide-wide.ensures
     (term_fault N c.wide-wide.result M z c.loop-a.a c.loop-c.c
-    c.loop-c.total c.in-ok-entry.entry c.stacked-entry-left.result c.stacked-entry-right.result b (omega arith) (omega arith)
-    c.loop-c.invariant (asked_ok N e c.in-ok-entry.entry c.in-ok-entry.ensures)
-    c.stacked-entry-left.ensures c.stacked-entry-right.ensures c.in-err-total.ensures))
+    c.loop-c.total c.in_ok-entry.entry c.stacked_entry-left.result c.stacked_entry-right.result b (omega arith) (omega arith)
+    c.loop-c.invariant (asked_ok N e c.in_ok-entry.entry c.in_ok-entry.ensures)
+    c.stacked_entry-left.ensures c.stacked_entry-right.ensures c.in_err-total.ensures))
 
 pub returns : goal.returns
 returns g c =

@@ -32,32 +32,32 @@ pub loop-stop-preserved : goal.loop-stop-preserved
 loop-stop-preserved g c =
     let N = g.Number.Number in
     let f = stage_formula N (shape c.args.at.sizes) (g.L.Line.meaning c.args.line.now) c.args.trail.now in
-    sum_more N (known (field N).𝟘) f c.loop-stop.stop c.loop-stop.total c.in-ok-cost.cost c.in-ok-total.total c.loop-stop.invariant
-    (stage g c.args.line.now c.args.at.sizes c.args.trail.now c.loop-stop.stop c.from-adjustments-adjustments.result.now c.from-lateness-lateness.result.now
-    (Ok c.in-ok-cost.cost) c.from-adjustments-adjustments.ensures c.from-lateness-lateness.ensures c.in-ok-cost.ensures)
-    c.in-ok-total.ensures
+    sum_more N (known (field N).𝟘) f c.loop-stop.stop c.loop-stop.total c.in_ok-cost.cost c.in_ok-total.total c.loop-stop.invariant
+    (stage g c.args.line.now c.args.at.sizes c.args.trail.now c.loop-stop.stop c.from_adjustments-adjustments.result.now c.from_lateness-lateness.result.now
+    (Ok c.in_ok-cost.cost) c.from_adjustments-adjustments.ensures c.from_lateness-lateness.ensures c.in_ok-cost.ensures)
+    c.in_ok-total.ensures
 
-pub returns-in-err-cost : goal.returns-in-err-cost
-returns-in-err-cost g c =
+pub returns-in_err-cost : goal.returns-in_err-cost
+returns-in_err-cost g c =
     let N = g.Number.Number in
     let f = stage_formula N (shape c.args.at.sizes) (g.L.Line.meaning c.args.line.now) c.args.trail.now in
-    let b = c.in-err-cost.field-0.0 in
+    let b = c.in_err-cost.field-0.0 in
     exits N (paid_formula N (shape c.args.at.sizes) (g.L.Line.meaning c.args.line.now) c.args.trail.now c.args.at.stop)
     c.from-residual.result b c.from-residual.ensures.1
     (sum_term N (known (field N).𝟘) f c.loop-stop.stop c.args.at.stop c.loop-stop.total b (omega arith) c.loop-stop.invariant
-    (stage g c.args.line.now c.args.at.sizes c.args.trail.now c.loop-stop.stop c.from-adjustments-adjustments.result.now c.from-lateness-lateness.result.now
-    (Err b) c.from-adjustments-adjustments.ensures c.from-lateness-lateness.ensures c.in-err-cost.ensures))
+    (stage g c.args.line.now c.args.at.sizes c.args.trail.now c.loop-stop.stop c.from_adjustments-adjustments.result.now c.from_lateness-lateness.result.now
+    (Err b) c.from_adjustments-adjustments.ensures c.from_lateness-lateness.ensures c.in_err-cost.ensures))
 
-pub returns-in-err-total : goal.returns-in-err-total
-returns-in-err-total g c =
+pub returns-in_err-total : goal.returns-in_err-total
+returns-in_err-total g c =
     let N = g.Number.Number in
     let f = stage_formula N (shape c.args.at.sizes) (g.L.Line.meaning c.args.line.now) c.args.trail.now in
     exits N (paid_formula N (shape c.args.at.sizes) (g.L.Line.meaning c.args.line.now) c.args.trail.now c.args.at.stop)
-    c.from-residual-in-err-total.result TooLarge c.from-residual-in-err-total.ensures.1
-    (sum_large N (known (field N).𝟘) f c.loop-stop.stop c.args.at.stop c.loop-stop.total c.in-ok-cost.cost (omega arith) c.loop-stop.invariant
-    (stage g c.args.line.now c.args.at.sizes c.args.trail.now c.loop-stop.stop c.from-adjustments-adjustments.result.now c.from-lateness-lateness.result.now
-    (Ok c.in-ok-cost.cost) c.from-adjustments-adjustments.ensures c.from-lateness-lateness.ensures c.in-ok-cost.ensures)
-    (not_held N (add_e (N.value c.loop-stop.total) (N.value c.in-ok-cost.cost)) c.in-err-total.field-0.0 c.in-err-total.ensures))
+    c.from-residual-in_err-total.result TooLarge c.from-residual-in_err-total.ensures.1
+    (sum_large N (known (field N).𝟘) f c.loop-stop.stop c.args.at.stop c.loop-stop.total c.in_ok-cost.cost (omega arith) c.loop-stop.invariant
+    (stage g c.args.line.now c.args.at.sizes c.args.trail.now c.loop-stop.stop c.from_adjustments-adjustments.result.now c.from_lateness-lateness.result.now
+    (Ok c.in_ok-cost.cost) c.from_adjustments-adjustments.ensures c.from_lateness-lateness.ensures c.in_ok-cost.ensures)
+    (not_held N (add_e (N.value c.loop-stop.total) (N.value c.in_ok-cost.cost)) c.in_err-total.field-0.0 c.in_err-total.ensures))
 
 pub returns : goal.returns
 returns g c =

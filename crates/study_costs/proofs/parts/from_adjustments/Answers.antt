@@ -5,11 +5,11 @@ use Rattle.study_terms.specs.Sized.{shape}
 use Rattle.study_costs.proofs.TrailParts.{stop_within}
 use Rattle.study_costs.proofs.parts.from_adjustments.Goals as goal
 
-pub slice-bounds-result-count : goal.slice-bounds-result-count
-slice-bounds-result-count c = let h = stop_within (shape c.args.sizes) c.args.stop c.requires.stop in let r = c.requires.room in omega arith
+pub slice_bounds-result-count : goal.slice_bounds-result-count
+slice_bounds-result-count c = let h = stop_within (shape c.args.sizes) c.args.stop c.requires.stop in let r = c.requires.room in omega arith
 
-pub slice-bounds-result-start : goal.slice-bounds-result-start
-slice-bounds-result-start c =
+pub slice_bounds-result-start : goal.slice_bounds-result-start
+slice_bounds-result-start c =
     let h = stop_within (shape c.args.sizes) c.args.stop c.requires.stop in
     let r = c.requires.room in
     let l : c.args.stop * (c.args.sizes.states + c.args.sizes.inputs) + c.args.sizes.states ≤ length c.args.trail.now = omega arith in

@@ -30,26 +30,26 @@ pub loop-c-preserved : goal.loop-c-preserved
 loop-c-preserved g c =
     let N = g.N.Number in
     term_more N (c.args.at.sizes.states + 1) (entries g c.args.at c.args.gains.now) (list g c.args.at c.args.lateness.now) c.loop-a.a c.loop-c.c
-    c.loop-c.total c.number-at-entry.result c.state-entry-left.result c.state-entry-right.result c.in-ok-total.total
-    c.loop-c.invariant (entry_read g c.args.at c.args.gains.now c.loop-a.a c.loop-c.c _ _ c.value-place.ensures c.number-at-entry.ensures) c.state-entry-left.ensures c.state-entry-right.ensures c.in-ok-total.ensures
+    c.loop-c.total c.number_at-entry.result c.state_entry-left.result c.state_entry-right.result c.in_ok-total.total
+    c.loop-c.invariant (entry_read g c.args.at c.args.gains.now c.loop-a.a c.loop-c.c _ _ c.value_place.ensures c.number_at-entry.ensures) c.state_entry-left.ensures c.state_entry-right.ensures c.in_ok-total.ensures
 
 pub loop-a-preserved : goal.loop-a-preserved
 loop-a-preserved g c =
     row_more g.N.Number (c.args.at.sizes.states + 1) (entries g c.args.at c.args.gains.now) (list g c.args.at c.args.lateness.now) c.loop-a.a c.loop-c.c
     c.loop-c.total (omega arith) c.loop-c.invariant
 
-pub returns-in-err-total : goal.returns-in-err-total
-returns-in-err-total g c =
+pub returns-in_err-total : goal.returns-in_err-total
+returns-in_err-total g c =
     let N = g.N.Number in
     let w : c.args.at.sizes.states + 1 ≡ suc c.args.at.sizes.states = omega arith in
-    let b = c.in-err-total.field-0.0 in
+    let b = c.in_err-total.field-0.0 in
     let M = entries g c.args.at c.args.gains.now in
     let z = list g c.args.at c.args.lateness.now in
     exits N (form_formula N (suc c.args.at.sizes.states) M z) c.from-residual.result b c.from-residual.ensures.1
     (subst (λ w. FirstFault N (form_formula N w M z) b) w
     (term_fault N (c.args.at.sizes.states + 1) M z c.loop-a.a c.loop-c.c
-    c.loop-c.total c.number-at-entry.result c.state-entry-left.result c.state-entry-right.result b (omega arith) (omega arith)
-    c.loop-c.invariant (entry_read g c.args.at c.args.gains.now c.loop-a.a c.loop-c.c _ _ c.value-place.ensures c.number-at-entry.ensures) c.state-entry-left.ensures c.state-entry-right.ensures c.in-err-total.ensures))
+    c.loop-c.total c.number_at-entry.result c.state_entry-left.result c.state_entry-right.result b (omega arith) (omega arith)
+    c.loop-c.invariant (entry_read g c.args.at c.args.gains.now c.loop-a.a c.loop-c.c _ _ c.value_place.ensures c.number_at-entry.ensures) c.state_entry-left.ensures c.state_entry-right.ensures c.in_err-total.ensures))
 
 pub returns : goal.returns
 returns g c =

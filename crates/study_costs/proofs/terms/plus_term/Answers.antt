@@ -9,12 +9,12 @@ pub returns : goal.returns
 returns g c f h u v =
     let N = g.N.Number in
     let x = known (N.value c.args.left) in
-    c.plus-product.ensures f (times h x) u (times_ok N h x c.args.entry c.args.left v (tt, refl) _ c.in-ok-scaled.ensures)
+    c.plus_product.ensures f (times h x) u (times_ok N h x c.args.entry c.args.left v (tt, refl) _ c.in_ok-scaled.ensures)
 
-pub returns-in-err-scaled : goal.returns-in-err-scaled
-returns-in-err-scaled g c f h u v =
+pub returns-in_err-scaled : goal.returns-in_err-scaled
+returns-in_err-scaled g c f h u v =
     let N = g.N.Number in
     let x = known (N.value c.args.left) in
     let y = known (N.value c.args.right) in
     exits N (plus f (times (times h x) y)) c.from-residual.result TooLarge c.from-residual.ensures.1
-    (inr (inl (u.0, inl (times_err N h x c.args.entry c.args.left v (tt, refl) (not_held N (mul_e (N.value c.args.entry) (N.value c.args.left)) c.in-err-scaled.field-0.0 c.in-err-scaled.ensures)))))
+    (inr (inl (u.0, inl (times_err N h x c.args.entry c.args.left v (tt, refl) (not_held N (mul_e (N.value c.args.entry) (N.value c.args.left)) c.in_err-scaled.field-0.0 c.in_err-scaled.ensures)))))

@@ -14,8 +14,8 @@ loop-i-preserved g c =
     let N = g.N.Number in
     let a = c.args in
     let f = square_formula N (shape a.here.sizes) a.gains.now a.trail.now a.here.stop in
-    sum_more N (known (N.value a.total)) f c.loop-i.i c.loop-i.total c.in-ok-square.square c.in-ok-total.total
-    c.loop-i.invariant c.in-ok-square.ensures c.in-ok-total.ensures
+    sum_more N (known (N.value a.total)) f c.loop-i.i c.loop-i.total c.in_ok-square.square c.in_ok-total.total
+    c.loop-i.invariant c.in_ok-square.ensures c.in_ok-total.ensures
 
 pub returns : goal.returns
 returns g c =
@@ -25,22 +25,22 @@ returns g c =
     let z : c.loop-i.i ≡ a.here.sizes.inputs = omega arith in
     subst (λ n. Outcome N (sums (known (N.value a.total)) n f) (Ok c.loop-i.total)) z c.loop-i.invariant
 
-pub returns-in-err-square : goal.returns-in-err-square
-returns-in-err-square g c =
+pub returns-in_err-square : goal.returns-in_err-square
+returns-in_err-square g c =
     let N = g.N.Number in
     let a = c.args in
     let s = known (N.value a.total) in
     let f = square_formula N (shape a.here.sizes) a.gains.now a.trail.now a.here.stop in
-    let b = c.in-err-square.field-0.0 in
+    let b = c.in_err-square.field-0.0 in
     exits N (sums s a.here.sizes.inputs f) c.from-residual.result b c.from-residual.ensures.1
-    (sum_term N s f c.loop-i.i a.here.sizes.inputs c.loop-i.total b (omega arith) c.loop-i.invariant c.in-err-square.ensures)
+    (sum_term N s f c.loop-i.i a.here.sizes.inputs c.loop-i.total b (omega arith) c.loop-i.invariant c.in_err-square.ensures)
 
-pub returns-in-err-total : goal.returns-in-err-total
-returns-in-err-total g c =
+pub returns-in_err-total : goal.returns-in_err-total
+returns-in_err-total g c =
     let N = g.N.Number in
     let a = c.args in
     let s = known (N.value a.total) in
     let f = square_formula N (shape a.here.sizes) a.gains.now a.trail.now a.here.stop in
-    exits N (sums s a.here.sizes.inputs f) c.from-residual-in-err-total.result TooLarge c.from-residual-in-err-total.ensures.1
-    (sum_large N s f c.loop-i.i a.here.sizes.inputs c.loop-i.total c.in-ok-square.square (omega arith) c.loop-i.invariant
-    c.in-ok-square.ensures (not_held N _ _ c.in-err-total.ensures))
+    exits N (sums s a.here.sizes.inputs f) c.from-residual-in_err-total.result TooLarge c.from-residual-in_err-total.ensures.1
+    (sum_large N s f c.loop-i.i a.here.sizes.inputs c.loop-i.total c.in_ok-square.square (omega arith) c.loop-i.invariant
+    c.in_ok-square.ensures (not_held N _ _ c.in_err-total.ensures))

@@ -8,14 +8,14 @@ use Rattle.study_gaps.specs.Steps.{later_here, gap_here}
 use Rattle.study_gaps.proofs.Adjusting.{in_the_trail}
 use Rattle.study_gaps.proofs.excess.gap.Goals as goal
 
-pub returns-in-err-sum : goal.returns-in-err-sum
-returns-in-err-sum g c =
+pub returns-in_err-sum : goal.returns-in_err-sum
+returns-in_err-sum g c =
     let N = g.N.Number in
     let a = c.args in
-    let b = c.in-err-sum.field-0.0 in
-    let e = in_the_trail N a.here a.trail.now c.lateness-place.result c.lateness-place.ensures.value in
+    let b = c.in_err-sum.field-0.0 in
+    let e = in_the_trail N a.here a.trail.now c.lateness_place.result c.lateness_place.ensures.value in
     exits N (gap_here N a.here a.gains.now a.trail.now a.input) c.from-residual.result b c.from-residual.ensures.1
-    (inr (inl (tt, subst (λ (u : ℕ → NumberOf N). FirstFault N (later_here N a.here a.gains.now a.trail.now u a.input) b) e c.in-err-sum.ensures)))
+    (inr (inl (tt, subst (λ (u : ℕ → NumberOf N). FirstFault N (later_here N a.here a.gains.now a.trail.now u a.input) b) e c.in_err-sum.ensures)))
 
 pub returns : goal.returns
 returns g c =
@@ -23,21 +23,21 @@ returns g c =
     let a = c.args in
     let u = u_at N (shape a.here.sizes) a.trail.now a.here.stop in
     let later : (ℕ → NumberOf N) → Formula _ (NumberOf N) = λ u. later_here N a.here a.gains.now a.trail.now u a.input in
-    let sum = c.in-ok-sum.sum in
-    let e = in_the_trail N a.here a.trail.now c.lateness-place.result c.lateness-place.ensures.value in
-    plus_ok N (known (u a.input)) (later u) c.number-at-made.result sum
-    (tt, c.number-at-made.ensures ∙ ap (λ (u : ℕ → NumberOf N). u a.input) e) (subst (λ u. Outcome N (later u) (Ok sum)) e c.in-ok-sum.ensures)
-    c.in-ok-plus.field-0 c.in-ok-plus.ensures
+    let sum = c.in_ok-sum.sum in
+    let e = in_the_trail N a.here a.trail.now c.lateness_place.result c.lateness_place.ensures.value in
+    plus_ok N (known (u a.input)) (later u) c.number_at-made.result sum
+    (tt, c.number_at-made.ensures ∙ ap (λ (u : ℕ → NumberOf N). u a.input) e) (subst (λ u. Outcome N (later u) (Ok sum)) e c.in_ok-sum.ensures)
+    c.in_ok-plus.field-0 c.in_ok-plus.ensures
 
-pub returns-in-err-plus : goal.returns-in-err-plus
-returns-in-err-plus g c =
+pub returns-in_err-plus : goal.returns-in_err-plus
+returns-in_err-plus g c =
     let N = g.N.Number in
     let a = c.args in
     let u = u_at N (shape a.here.sizes) a.trail.now a.here.stop in
     let later : (ℕ → NumberOf N) → Formula _ (NumberOf N) = λ u. later_here N a.here a.gains.now a.trail.now u a.input in
-    let sum = c.in-ok-sum.sum in
-    let e = in_the_trail N a.here a.trail.now c.lateness-place.result c.lateness-place.ensures.value in
-    exits N (gap_here N a.here a.gains.now a.trail.now a.input) c.from-residual-in-err-plus.result TooLarge c.from-residual-in-err-plus.ensures.1
-    (plus_err N (known (u a.input)) (later u) c.number-at-made.result sum
-    (tt, c.number-at-made.ensures ∙ ap (λ (u : ℕ → NumberOf N). u a.input) e) (subst (λ u. Outcome N (later u) (Ok sum)) e c.in-ok-sum.ensures)
-    (not_held N _ _ c.in-err-plus.ensures))
+    let sum = c.in_ok-sum.sum in
+    let e = in_the_trail N a.here a.trail.now c.lateness_place.result c.lateness_place.ensures.value in
+    exits N (gap_here N a.here a.gains.now a.trail.now a.input) c.from-residual-in_err-plus.result TooLarge c.from-residual-in_err-plus.ensures.1
+    (plus_err N (known (u a.input)) (later u) c.number_at-made.result sum
+    (tt, c.number_at-made.ensures ∙ ap (λ (u : ℕ → NumberOf N). u a.input) e) (subst (λ u. Outcome N (later u) (Ok sum)) e c.in_ok-sum.ensures)
+    (not_held N _ _ c.in_err-plus.ensures))

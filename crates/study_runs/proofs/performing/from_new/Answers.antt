@@ -23,5 +23,5 @@ returns-in-Err g c =
     goes_on g.Number.Number m c.args.command.now Weigh (Refused e) runs.new runs.new runs.new c.args.gains.now c.weigh.new.gains c.args.trail.now c.args.trail.now
     (runs.weigh c.args.scratch.now) (runs.refused e) c.in-Weigh.is refl (c.args.scratch.now, refl) (λ l. (l, refuses_weigh m refl h.1, refl))
 
-pub returns-in-default : goal.returns-in-default
-returns-in-default g c = goes_not g.Number.Number (g.L.Line.meaning c.args.line.now) c.args.command.now runs.new c.args.gains.now c.args.trail.now (none_new c.args.command.now c.in-default.not-Weigh)
+pub returns-in_default : goal.returns-in_default
+returns-in_default g c = goes_not g.Number.Number (g.L.Line.meaning c.args.line.now) c.args.command.now runs.new c.args.gains.now c.args.trail.now (none_new c.args.command.now c.in_default.not-Weigh)

@@ -23,12 +23,12 @@ returns-in-Ok g c =
     let k = c.args.study.at.stop in
     let made = vec_items c.in-Confirm.made in
     let now = c.standing-at.result in
-    goes_on N m c.args.command.now (Confirm c.in-Confirm.made) (Stands now.stop c.lateness-at-lateness.result) (ordered_stage c.args.study) _ (runs.underway s (suc k))
+    goes_on N m c.args.command.now (Confirm c.in-Confirm.made) (Stands now.stop c.lateness_at-lateness.result) (ordered_stage c.args.study) _ (runs.underway s (suc k))
     c.args.gains.now c.args.gains.now c.args.trail.now c.confirm.new.trail (runs.confirm made) runs.done c.in-Confirm.is h.0 refl
     (λ l. (
       runs.extended l (at N made),
-      confirms refl (subst (λ t. ConfirmGranted N s m k t c.args.trail.now c.confirm.new.trail) c.as-slice.ensures.value h.1),
-      (refl, (shape now.sizes, sym h.0 ∙ ap (λ (a : Standing). runs.underway (shape a.sizes) a.stop) (sym c.standing-at.ensures), c.lateness-at-lateness.ensures)),
+      confirms refl (subst (λ t. ConfirmGranted N s m k t c.args.trail.now c.confirm.new.trail) c.as_slice.ensures.value h.1),
+      (refl, (shape now.sizes, sym h.0 ∙ ap (λ (a : Standing). runs.underway (shape a.sizes) a.stop) (sym c.standing-at.ensures), c.lateness_at-lateness.ensures)),
     ))
 
 pub returns-in-Err : goal.returns-in-Err
@@ -41,7 +41,7 @@ returns-in-Err g c =
     let made = vec_items c.in-Confirm.made in
     goes_refused N m c.args.command.now (Confirm c.in-Confirm.made) (ordered_stage c.args.study) _ c.args.gains.now c.args.gains.now c.args.trail.now c.confirm.new.trail
     (runs.confirm made) c.in-Err.refused.1 (confirm_checks N s m k made c.args.trail.now) c.in-Confirm.is (ap ordered_stage h.0) refl h.2 refl (asks_confirm refl)
-    (subst (λ t. RefusedWith N (confirm_checks N s m k t c.args.trail.now) (refusal c.in-Err.refused.1)) c.as-slice.ensures.value h.1)
+    (subst (λ t. RefusedWith N (confirm_checks N s m k t c.args.trail.now) (refusal c.in-Err.refused.1)) c.as_slice.ensures.value h.1)
 
 pub returns-in-Withdraw : goal.returns-in-Withdraw
 returns-in-Withdraw g c =
@@ -51,15 +51,15 @@ returns-in-Withdraw g c =
     let k = c.args.study.at.stop in
     let now = c.standing-at-in-Withdraw.result in
     let h = c.withdraw-underway.ensures in
-    goes_on N m c.args.command.now Withdraw (Stands now.stop c.lateness-at-lateness-in-Withdraw.result) (ordered_stage c.args.study) _ (runs.underway s k)
+    goes_on N m c.args.command.now Withdraw (Stands now.stop c.lateness_at-lateness-in-Withdraw.result) (ordered_stage c.args.study) _ (runs.underway s k)
     c.args.gains.now c.args.gains.now c.args.trail.now c.args.trail.now runs.withdraw runs.done c.in-Withdraw.is h refl
     (λ l. (
       l,
       withdraws refl,
-      (refl, (shape now.sizes, sym h ∙ ap (λ (a : Standing). runs.underway (shape a.sizes) a.stop) (sym c.standing-at-in-Withdraw.ensures), c.lateness-at-lateness-in-Withdraw.ensures)),
+      (refl, (shape now.sizes, sym h ∙ ap (λ (a : Standing). runs.underway (shape a.sizes) a.stop) (sym c.standing-at-in-Withdraw.ensures), c.lateness_at-lateness-in-Withdraw.ensures)),
     ))
 
-pub returns-in-default : goal.returns-in-default
-returns-in-default g c =
+pub returns-in_default : goal.returns-in_default
+returns-in_default g c =
     goes_not g.Number.Number (g.L.Line.meaning c.args.line.now) c.args.command.now (ordered_stage c.args.study) c.args.gains.now c.args.trail.now
-    (none_ordered (shape c.args.study.at.sizes) c.args.study.at.stop c.args.command.now c.in-default.not-Confirm c.in-default.not-Withdraw)
+    (none_ordered (shape c.args.study.at.sizes) c.args.study.at.stop c.args.command.now c.in_default.not-Confirm c.in_default.not-Withdraw)

@@ -19,8 +19,8 @@ returns-in-Ok g c =
     let s = shape c.args.study.at.sizes in
     let k = c.args.study.at.stop in
     let slip = c.propose.new.slip in
-    let f = c.few-from.ensures in
-    goes_on N m c.args.command.now Propose (Planned c.few-from.result) (underway_stage c.args.study) _ (runs.ordered s k)
+    let f = c.few_from.ensures in
+    goes_on N m c.args.command.now Propose (Planned c.few_from.result) (underway_stage c.args.study) _ (runs.ordered s k)
     c.args.gains.now c.args.gains.now c.args.trail.now c.args.trail.now (runs.propose c.args.slip.now) (runs.wrote slip) c.in-Propose.is h.0 (c.args.slip.now, refl)
     (λ l. (
       l,
@@ -93,9 +93,9 @@ returns-in-Err-close g c =
     goes_refused N m c.args.command.now Close (underway_stage c.args.study) _ c.args.gains.now c.args.gains.now c.args.trail.now c.args.trail.now
     runs.close c.in-Err-close.refused.1 (close_checks N s k) c.in-Close.is (ap underway_stage h.0) refl refl refl (asks_close refl) h.1
 
-pub returns-in-default : goal.returns-in-default
-returns-in-default g c =
-    let r = c.in-default in
+pub returns-in_default : goal.returns-in_default
+returns-in_default g c =
+    let r = c.in_default in
     goes_not g.Number.Number (g.L.Line.meaning c.args.line.now) c.args.command.now (underway_stage c.args.study) c.args.gains.now c.args.trail.now
     (none_underway (shape c.args.study.at.sizes) c.args.study.at.stop c.args.command.now
     (record { propose = r.not-Propose; paid = r.not-Paid; rest = r.not-Rest; excess = r.not-Excess; abandon = r.not-Abandon; close = r.not-Close }))

@@ -22,12 +22,12 @@ returns-in-Ok g c =
     let s = shape c.args.study.sizes in
     let start = vec_items c.in-Begin.start in
     let now = c.standing-at.result in
-    goes_on N m c.args.command.now (Begin c.in-Begin.start) (Stands now.stop c.lateness-at-lateness.result) (weighed_stage c.args.study) _ (runs.underway s 0)
+    goes_on N m c.args.command.now (Begin c.in-Begin.start) (Stands now.stop c.lateness_at-lateness.result) (weighed_stage c.args.study) _ (runs.underway s 0)
     c.args.gains.now c.args.gains.now c.args.trail.now c.begin.new.trail (runs.begin start) runs.done c.in-Begin.is h.0 refl
     (λ l. (
       runs.entered (runs.begun N (at N start)),
-      begins refl (subst (λ t. BeginGranted N s t c.args.trail.now c.begin.new.trail) c.as-slice.ensures.value h.1),
-      (refl, (shape now.sizes, sym h.0 ∙ ap (λ (a : Standing). runs.underway (shape a.sizes) a.stop) (sym c.standing-at.ensures), c.lateness-at-lateness.ensures)),
+      begins refl (subst (λ t. BeginGranted N s t c.args.trail.now c.begin.new.trail) c.as_slice.ensures.value h.1),
+      (refl, (shape now.sizes, sym h.0 ∙ ap (λ (a : Standing). runs.underway (shape a.sizes) a.stop) (sym c.standing-at.ensures), c.lateness_at-lateness.ensures)),
     ))
 
 pub returns-in-Err : goal.returns-in-Err
@@ -39,9 +39,9 @@ returns-in-Err g c =
     let start = vec_items c.in-Begin.start in
     goes_refused N m c.args.command.now (Begin c.in-Begin.start) (weighed_stage c.args.study) _ c.args.gains.now c.args.gains.now c.args.trail.now c.begin.new.trail
     (runs.begin start) c.in-Err.refused.1 (begin_checks N s (length start) (length c.args.trail.now)) c.in-Begin.is (ap weighed_stage h.0) refl h.2 refl (asks_begin refl)
-    (subst (λ t. RefusedWith N (begin_checks N s (length t) (length c.args.trail.now)) (refusal c.in-Err.refused.1)) c.as-slice.ensures.value h.1)
+    (subst (λ t. RefusedWith N (begin_checks N s (length t) (length c.args.trail.now)) (refusal c.in-Err.refused.1)) c.as_slice.ensures.value h.1)
 
-pub returns-in-default : goal.returns-in-default
-returns-in-default g c =
+pub returns-in_default : goal.returns-in_default
+returns-in_default g c =
     goes_not g.Number.Number (g.L.Line.meaning c.args.line.now) c.args.command.now (weighed_stage c.args.study) c.args.gains.now c.args.trail.now
-    (none_weighed (shape c.args.study.sizes) c.args.command.now c.in-default.not-Begin)
+    (none_weighed (shape c.args.study.sizes) c.args.command.now c.in_default.not-Begin)

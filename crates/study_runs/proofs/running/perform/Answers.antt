@@ -8,7 +8,7 @@ returns g c =
     let m = g.L.Line.meaning c.args.line.now in
     let laws = g.met.Number.Number in
     record {
-      run = c.perform-in-sheets.ensures;
+      run = c.perform_in_sheets.ensures;
       law = study_law N (record { same = laws.same; form = laws.form; back = laws.back; wholes = laws.wholes }) m
           (exact_lawful N.good N.value m (g.met.L.Line.lawful c.args.line.now)) g.Number.Kind.find g.met.Number.Kind.finds;
     }

@@ -30,13 +30,13 @@ loop-command-preserved g c =
     let z : suc k ≡ k + 1 = omega arith in
     let one : take (k + 1) cs ≡ take k cs ++ (command ∷ []) =
     ap (λ n. take n cs) (sym z) ∙ take-suc cs k command inside ∙ ap (λ (d : Command). take k cs ++ (d ∷ [])) (sym c.command-item.is) in
-    let r = c.perform-one-next in
-    let push = c.push-reserved.ensures in
+    let r = c.perform_one-next in
+    let push = c.push_reserved.ensures in
     let long = push.len in
     let cap = push.capacity in
     let room = i.2 in
     let few = i.3 in (
-      subst (λ t. SoFar N m t (vec_items c.push-reserved.new.self) (stage_of r.result.0) r.new.gains r.new.trail) (sym one)
+      subst (λ t. SoFar N m t (vec_items c.push_reserved.new.self) (stage_of r.result.0) r.new.gains r.new.trail) (sym one)
           (subst (λ v. SoFar N m (take k cs ++ (command ∷ [])) v (stage_of r.result.0) r.new.gains r.new.trail) (sym push.items)
           (more N m (take k cs) (vec_items c.loop-command.answers) command r.result.1 (stage_of c.loop-command.study) (stage_of r.result.0) c.loop-command.gains r.new.gains c.loop-command.trail r.new.trail i.0 r.ensures)),
       long ∙ ap (λ n. n + 1) i.1,

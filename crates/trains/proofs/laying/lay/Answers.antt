@@ -13,8 +13,8 @@ returns g c =
     let t = aim c.args.aims.aims in (
       c.over.ensures.line,
       c.over.ensures.book,
-      fits_below v f t b c.args.book.sizes c.in-ok-fits.ensures,
+      fits_below v f t b c.args.book.sizes c.in_ok-fits.ensures,
       shifts_and_adds g.row.Number-Number.good v f (held c.args.book) b t
           (aims_shift g.row.Number-Number.good v f g.met.Number.Kind.finds t b (λ n k h. aim_states c.args.aims.aims n k h) (g.met.L.Line.lawful c.args.aims.below))
-          (c.over.ensures.cost c.in-ok-fits.ensures),
+          (c.over.ensures.cost c.in_ok-fits.ensures),
     )

@@ -5,14 +5,14 @@ use Rattle.trains.proofs.weights.factor_at.Goals as goal
 
 pub returns-then-place-first : goal.returns-then-place-first
 returns-then-place-first c =
-    let f : SFits w64 c.number-at.result = search rules in
-    let r = told c.number-at.result _ 32768 f (c.number-at.ensures.value ∙ sym (factor_move c.args.first c.args.states c.args.t.now c.args.place c.if-place-first.true)) c.number-at.ensures.bound in
+    let f : SFits w64 c.number_at.result = search rules in
+    let r = told c.number_at.result _ 32768 f (c.number_at.ensures.value ∙ sym (factor_move c.args.first c.args.states c.args.t.now c.args.place c.if-place-first.true)) c.number_at.ensures.bound in
     record { value = r.0; bound = r.1 }
 
 pub returns-then-place-first-2 : goal.returns-then-place-first-2
 returns-then-place-first-2 c =
-    let f : SFits w64 c.number-at-then-place-first-2.result = search rules in
-    let r = told c.number-at-then-place-first-2.result _ 32768 f (c.number-at-then-place-first-2.ensures.value ∙ sym (factor_late c.args.first c.args.states c.args.t.now c.args.place c.if-place-first.false c.if-place-first-2.true)) c.number-at-then-place-first-2.ensures.bound in
+    let f : SFits w64 c.number_at-then-place-first-2.result = search rules in
+    let r = told c.number_at-then-place-first-2.result _ 32768 f (c.number_at-then-place-first-2.ensures.value ∙ sym (factor_late c.args.first c.args.states c.args.t.now c.args.place c.if-place-first.false c.if-place-first-2.true)) c.number_at-then-place-first-2.ensures.bound in
     record { value = r.0; bound = r.1 }
 
 pub returns : goal.returns

@@ -17,11 +17,11 @@ loop-t-preserved c =
     let few : i + 1 ≤ 64 = omega arith in
     elim c.if-from-stop.branch [
       | then-from-stop w ↦
-          (let fr : SFits w64 w.share-of-sum.result = record { sfits = w.share-of-sum.type-inv } in
-          let r = sum_told _ _ w.share-of-sum.result i (65535 * 32768 * 32768) fr c.loop-t.invariant.1 w.share-of-sum.ensures.bound (omega arith) w.sum-is in
+          (let fr : SFits w64 w.share_of-sum.result = record { sfits = w.share_of-sum.type_inv } in
+          let r = sum_told _ _ w.share_of-sum.result i (65535 * 32768 * 32768) fr c.loop-t.invariant.1 w.share_of-sum.ensures.bound (omega arith) w.sum-is in
           let at : t.stop ≡ c.args.stop = sym c.from.ensures ∙ w.if-from-stop.true in (
-            r.0 ∙ ap (λ (z : ℤ). z +ℤ w.share-of-sum.result) c.loop-t.invariant.0
-                ∙ ap (λ (z : ℤ). weighed c.args.stop c.args.first c.args.states (take i ts) c.args.row c.args.column +ℤ z) (w.share-of-sum.ensures.value ∙ sym (here c.args.stop t (share c.args.first c.args.states t c.args.row c.args.column) at))
+            r.0 ∙ ap (λ (z : ℤ). z +ℤ w.share_of-sum.result) c.loop-t.invariant.0
+                ∙ ap (λ (z : ℤ). weighed c.args.stop c.args.first c.args.states (take i ts) c.args.row c.args.column +ℤ z) (w.share_of-sum.ensures.value ∙ sym (here c.args.stop t (share c.args.first c.args.states t c.args.row c.args.column) at))
                 ∙ sym more,
             r.1,
           ))

@@ -4,26 +4,26 @@ use Rattle.aims.specs.Aimed.{aim, corner, corner_less_lem}
 use Rattle.aims.proofs.Aiming.{passed, corner_more, corner_stays}
 use Rattle.aims.proofs.layer.Aims.corner.Goals as goal
 
-pub returns-in-err-sum : goal.returns-in-err-sum
-returns-in-err-sum g c =
+pub returns-in_err-sum : goal.returns-in_err-sum
+returns-in_err-sum g c =
     let b = g.L.Line.meaning c.args.self.now.below in
-    passed _ c.in-err-sum.field-0.0 c.from-residual.result
-    (corner_stays g.row.L-Number-Number.value g.L.Number.Kind.find (aim c.args.self.now.aims) b c.args.mark c.args.stop c.args.last (c.args.last - b.nx) 0 (min b.nx 4) c.in-err-sum.field-0.0.mark (omega arith) c.in-err-sum.ensures)
+    passed _ c.in_err-sum.field-0.0 c.from-residual.result
+    (corner_stays g.row.L-Number-Number.value g.L.Number.Kind.find (aim c.args.self.now.aims) b c.args.mark c.args.stop c.args.last (c.args.last - b.nx) 0 (min b.nx 4) c.in_err-sum.field-0.0.mark (omega arith) c.in_err-sum.ensures)
     c.from-residual.ensures.1
 
-pub returns-in-err-sum-2 : goal.returns-in-err-sum-2
-returns-in-err-sum-2 g c =
+pub returns-in_err-sum-2 : goal.returns-in_err-sum-2
+returns-in_err-sum-2 g c =
     let b = g.L.Line.meaning c.args.self.now.below in
     let v = g.row.L-Number-Number.value in
     let f = g.L.Number.Kind.find in
     let t = aim c.args.self.now.aims in
-    let e = c.in-err-sum-2.field-0.0.mark in
-    passed _ c.in-err-sum-2.field-0.0 c.from-residual-in-err-sum-2.result
+    let e = c.in_err-sum-2.field-0.0.mark in
+    passed _ c.in_err-sum-2.field-0.0 c.from-residual-in_err-sum-2.result
     (corner_stays v f t b c.args.mark c.args.stop c.args.last (c.args.last - b.nx) (c.loop-k.k + 1) (min b.nx 4) e (omega arith)
-    (corner_more v f t b c.args.mark c.args.stop c.args.last (c.args.last - b.nx) c.loop-k.k c.loop-k.sum (marked e) c.loop-k.invariant c.in-err-sum-2.ensures))
-    c.from-residual-in-err-sum-2.ensures.1
+    (corner_more v f t b c.args.mark c.args.stop c.args.last (c.args.last - b.nx) c.loop-k.k c.loop-k.sum (marked e) c.loop-k.invariant c.in_err-sum-2.ensures))
+    c.from-residual-in_err-sum-2.ensures.1
 
 pub loop-k-preserved : goal.loop-k-preserved
 loop-k-preserved g c =
     let b = g.L.Line.meaning c.args.self.now.below in
-    corner_more g.row.L-Number-Number.value g.L.Number.Kind.find (aim c.args.self.now.aims) b c.args.mark c.args.stop c.args.last (c.args.last - b.nx) c.loop-k.k c.loop-k.sum (holds c.in-ok-sum-2.sum) c.loop-k.invariant c.in-ok-sum-2.ensures
+    corner_more g.row.L-Number-Number.value g.L.Number.Kind.find (aim c.args.self.now.aims) b c.args.mark c.args.stop c.args.last (c.args.last - b.nx) c.loop-k.k c.loop-k.sum (holds c.in_ok-sum-2.sum) c.loop-k.invariant c.in_ok-sum-2.ensures

@@ -28,8 +28,8 @@ times-requires c =
 under_is : (d y t : ℤ) → SFits w64 d → SFits w64 y → nat_abs d ≤ 99 → t ≡ to_z w64 (of_z w64 (pos 0 -ℤ to_z w64 (of_z w64 d))) *ℤ to_z w64 (of_z w64 y) → t ≡ neg_ℤ d *ℤ y
 under_is d y t fd fy h e = product_words t (neg_ℤ d) y (neg_fits d h) fy (e ∙ ap (λ z. z *ℤ to_z w64 (of_z w64 y)) (neg_word d fd h))
 
-pub two-products-requires : goal.two-products-requires
-two-products-requires c =
+pub two_products-requires : goal.two_products-requires
+two_products-requires c =
     let ft : SFits w64 c.times.result = search rules in
     let e = under_is c.args.d c.args.y c.times.result c.ranges.d c.ranges.y c.requires.d c.times.ensures in
     let s : nat_abs (neg_ℤ c.args.d *ℤ c.args.y) ≤ nat_abs (neg_ℤ c.args.d) * root_size = under_size (neg_ℤ c.args.d) c.args.y root_size c.requires.y in
@@ -42,11 +42,11 @@ two-products-requires c =
 
 pub returns : goal.returns
 returns c =
-    let x = c.args.x in let y = c.args.y in let u = c.args.u in let v = c.args.v in let d = c.args.d in let t = c.times.result in let r = c.two-products.result in
+    let x = c.args.x in let y = c.args.y in let u = c.args.u in let v = c.args.v in let d = c.args.d in let t = c.times.result in let r = c.two_products.result in
     let ft : SFits w64 c.times.result = search rules in
-    let fr : SFits w64 c.two-products.result = search rules in
+    let fr : SFits w64 c.two_products.result = search rules in
     let et = under_is d y t c.ranges.d c.ranges.y c.requires.d c.times.ensures in
-    let er : r ≡ (x *ℤ u) +ℤ ((neg_ℤ d *ℤ y) *ℤ v) = two_words r x u t v c.ranges.x c.ranges.u ft c.ranges.v c.two-products.ensures.value ∙ ap (λ z. (x *ℤ u) +ℤ (z *ℤ v)) et in
+    let er : r ≡ (x *ℤ u) +ℤ ((neg_ℤ d *ℤ y) *ℤ v) = two_words r x u t v c.ranges.x c.ranges.u ft c.ranges.v c.two_products.ensures.value ∙ ap (λ z. (x *ℤ u) +ℤ (z *ℤ v)) et in
     let same : (x *ℤ u) +ℤ ((neg_ℤ d *ℤ y) *ℤ v) ≡ conjugate x y u v d = solve₅ ℤ_ring (λ x y u v d. x :* u :+ :neg d :* y :* v ≋ x :* u :- d :* (y :* v)) tt x y u v d in
     let b = products_bound x u (neg_ℤ d *ℤ y) v in
     let s = conjugate_size root_size x y u v (neg_ℤ d) c.requires.x c.requires.y c.requires.u c.requires.v (abs_neg d c.requires.d) in

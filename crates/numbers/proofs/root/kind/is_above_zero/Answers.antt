@@ -25,20 +25,20 @@ not_at_least x f e = go x (ap (le_z (pos 0)) (sym (word x f)) ∙ e)
     go (pos n) e = absurd (subst T e (subst T (sym (leb-zero n)) tt))
     go (negsuc n) e = record { lt = tt }
 
-pub overflow-add-result : goal.overflow-add-result
-overflow-add-result g c =
-    let row = c.args.row in let s = root_sizes row c.requires in let ps = s.p_size in let qs = s.q_size in let w = root_words row c.requires in let pf = w.p-fits in let qf = w.q-fits in
+pub overflow_add-result : goal.overflow_add-result
+overflow_add-result g c =
+    let row = c.args.row in let s = root_sizes row c.requires in let ps = s.p_size in let qs = s.q_size in let w = root_words row c.requires in let pf = w.p_fits in let qf = w.q_fits in
     omega (arith, ints)
 
-pub conjugate-part-requires : goal.conjugate-part-requires
-conjugate-part-requires g c =
+pub conjugate_part-requires : goal.conjugate_part-requires
+conjugate_part-requires g c =
     let row = c.args.row in
     let f : SFits w64 c.value-d.result = search rules in
     let p = p_bounded row c.requires in let q = q_bounded row c.requires in
     record { x = p; y = q; u = p; v = q; d = radicand_bounded g.R.Radicand.radicand c.value-d.result g.met.R.Radicand.small f c.value-d.ensures }
 
-pub conjugate-part-requires-2 : goal.conjugate-part-requires-2
-conjugate-part-requires-2 g c =
+pub conjugate_part-requires-2 : goal.conjugate_part-requires-2
+conjugate_part-requires-2 g c =
     let row = c.args.row in
     let f : SFits w64 c.value-d.result = search rules in
     let p = p_bounded row c.requires in let q = q_bounded row c.requires in
@@ -50,11 +50,11 @@ norm_is : (D : ℕ) (row : Parts) (f : T (has_form root_size row)) (d r : ℤ) �
     → to_z w64 (of_z w64 r) ≡ conjugate row.p row.q row.p row.q (pos D)
 norm_is D row f d r fd fr ed e =
     let w = root_words row f in
-    word r fr ∙ conjugate_words r row.p row.q row.p row.q d w.p-fits w.q-fits w.p-fits w.q-fits fd e ∙ ap (conjugate row.p row.q row.p row.q) ed
+    word r fr ∙ conjugate_words r row.p row.q row.p row.q d w.p_fits w.q_fits w.p_fits w.q_fits fd e ∙ ap (conjugate row.p row.q row.p row.q) ed
 
 pub returns-then-row-ge0-2 : goal.returns-then-row-ge0-2
 returns-then-row-ge0-2 g c =
-    let row = c.args.row in let D = g.R.Radicand.radicand in let s = root_sizes row c.requires in let ps = s.p_size in let qs = s.q_size in let w = root_words row c.requires in let pf = w.p-fits in let qf = w.q-fits in
+    let row = c.args.row in let D = g.R.Radicand.radicand in let s = root_sizes row c.requires in let ps = s.p_size in let qs = s.q_size in let w = root_words row c.requires in let pf = w.p_fits in let qf = w.q_fits in
     let e : to_z w64 (of_z w64 (to_z w64 (of_z w64 row.p) +ℤ to_z w64 (of_z w64 row.q))) ≡ row.p +ℤ row.q = omega (arith, ints) in
     subst (λ (z : ℤ). Decides (lt_z (pos 0) z) (PosE (row_number D row))) (sym e)
     (positive_row D row _ (root_above row c.requires) (plain D g.met.R.Radicand.small row.q) (both_above D row.p row.q (at_least row.p pf c.if-row-ge0.true) (at_least row.q qf c.if-row-ge0-2.true)))
@@ -63,21 +63,21 @@ pub returns-then-row-ge0 : goal.returns-then-row-ge0
 returns-then-row-ge0 g c =
     let row = c.args.row in let D = g.R.Radicand.radicand in let w = root_words row c.requires in
     let fd : SFits w64 c.value-d.result = search rules in
-    let fr : SFits w64 c.conjugate-part.result = search rules in
-    subst (λ (z : ℤ). Decides (lt_z (pos 0) z) (PosE (row_number D row))) (sym (norm_is D row c.requires c.value-d.result c.conjugate-part.result fd fr c.value-d.ensures c.conjugate-part.ensures.value))
-    (positive_row D row _ (root_above row c.requires) (plain D g.met.R.Radicand.small row.q) (p_above D row.p row.q (at_least row.p w.p-fits c.if-row-ge0.true) (not_at_least row.q w.q-fits c.if-row-ge0-2.false)))
+    let fr : SFits w64 c.conjugate_part.result = search rules in
+    subst (λ (z : ℤ). Decides (lt_z (pos 0) z) (PosE (row_number D row))) (sym (norm_is D row c.requires c.value-d.result c.conjugate_part.result fd fr c.value-d.ensures c.conjugate_part.ensures.value))
+    (positive_row D row _ (root_above row c.requires) (plain D g.met.R.Radicand.small row.q) (p_above D row.p row.q (at_least row.p w.p_fits c.if-row-ge0.true) (not_at_least row.q w.q_fits c.if-row-ge0-2.false)))
 
 pub returns-then-row-lt0 : goal.returns-then-row-lt0
 returns-then-row-lt0 g c =
-    let row = c.args.row in let D = g.R.Radicand.radicand in let w = root_words row c.requires in let qf = w.q-fits in
+    let row = c.args.row in let D = g.R.Radicand.radicand in let w = root_words row c.requires in let qf = w.q_fits in
     let q : row.q <ℤ pos 0 = omega (arith, ints) in
-    positive_row D row false (root_above row c.requires) (plain D g.met.R.Radicand.small row.q) (both_below D row.p row.q (not_at_least row.p w.p-fits c.if-row-ge0.false) q)
+    positive_row D row false (root_above row c.requires) (plain D g.met.R.Radicand.small row.q) (both_below D row.p row.q (not_at_least row.p w.p_fits c.if-row-ge0.false) q)
 
 pub returns : goal.returns
 returns g c =
-    let row = c.args.row in let D = g.R.Radicand.radicand in let w = root_words row c.requires in let qf = w.q-fits in
+    let row = c.args.row in let D = g.R.Radicand.radicand in let w = root_words row c.requires in let qf = w.q_fits in
     let fd : SFits w64 c.value-d.result = search rules in
-    let fr : SFits w64 c.conjugate-part-2.result = search rules in
+    let fr : SFits w64 c.conjugate_part-2.result = search rules in
     let q : pos 0 ≤ℤ row.q = omega (arith, ints) in
-    subst (λ (z : ℤ). Decides (lt_z z (pos 0)) (PosE (row_number D row))) (sym (norm_is D row c.requires c.value-d.result c.conjugate-part-2.result fd fr c.value-d.ensures c.conjugate-part-2.ensures.value))
-    (positive_row D row _ (root_above row c.requires) (plain D g.met.R.Radicand.small row.q) (q_above D row.p row.q (not_at_least row.p w.p-fits c.if-row-ge0.false) q))
+    subst (λ (z : ℤ). Decides (lt_z z (pos 0)) (PosE (row_number D row))) (sym (norm_is D row c.requires c.value-d.result c.conjugate_part-2.result fd fr c.value-d.ensures c.conjugate_part-2.ensures.value))
+    (positive_row D row _ (root_above row c.requires) (plain D g.met.R.Radicand.small row.q) (q_above D row.p row.q (not_at_least row.p w.p_fits c.if-row-ge0.false) q))

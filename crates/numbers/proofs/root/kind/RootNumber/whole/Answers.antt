@@ -2,4 +2,4 @@ use Rattle.std.proofs.lemmas.Int.{to_z-of_z}
 use Rattle.numbers.proofs.root.kind.RootNumber.whole.Goals as goal
 
 pub returns : goal.returns
-returns g c = let f = c.ranges.w in simp to_z-of_z at c.from-whole.ensures
+returns g c = let f = c.ranges.w in simp to_z-of_z at c.from_whole.ensures
