@@ -24,7 +24,7 @@ returns-in_default-lowest_parts g c = absurd (c.in_default-lowest_parts.ensures 
 
 pub returns-then-same_parts : goal.returns-then-same_parts
 returns-then-same_parts g c =
-    let raw = c.in-Some.raw in let row = c.in-Some-lowest_parts.row in let k = c.read_number.result in
+    let raw = c.in-Some.raw in let row = c.in-Some-lowest_parts.row in let k = c.read-number.result in
     let f : SFits w64 c.under_root-d.result = search rules in
     let e = radicand_is g.N.Number.radicand c.under_root-d.result f c.under_root-d.ensures in
     let s = subst₂ (λ (D : ℕ) (bs : List ℕ). Spells D bs raw.p raw.q (nat_abs raw.m)) e c.as_bytes.ensures.value c.in-Some.ensures.1 in
@@ -35,12 +35,12 @@ returns-then-same_parts g c =
 
 pub returns : goal.returns
 returns g c =
-    let raw = c.in-Some.raw in let row = c.in-Some-lowest_parts.row in let k = c.read_number.result in
+    let raw = c.in-Some.raw in let row = c.in-Some-lowest_parts.row in let k = c.read-number.result in
     let f : SFits w64 c.under_root-d.result = search rules in
     let e = radicand_is g.N.Number.radicand c.under_root-d.result f c.under_root-d.ensures in
     let s = subst₂ (λ (D : ℕ) (bs : List ℕ). Spells D bs raw.p raw.q (nat_abs raw.m)) e c.as_bytes.ensures.value c.in-Some.ensures.1 in
     let laws = g.met.N.Number in
     let v : ¬ Held g.N.Number.value (row_number g.N.Number.radicand raw) =
     not_held g.N.Number.value g.N.Number.parts g.N.Number.reading laws.same laws.form laws.back raw row c.in-Some-lowest_parts.ensures k
-    (spelled_plain g.N.Number.radicand c.args.text.now raw.p raw.q (nat_abs raw.m) s) c.read_number.ensures (λ x. c.if-same_parts.ensures (c.row.ensures ∙ x)) in
+    (spelled_plain g.N.Number.radicand c.args.text.now raw.p raw.q (nat_abs raw.m) s) c.read-number.ensures (λ x. c.if-same_parts.ensures (c.row.ensures ∙ x)) in
     record { reads = (raw.p, raw.q, nat_abs raw.m, s, v); back = λ j. reads_back g.N.Number.value g.N.Number.parts g.met.N.Number.small g.met.N.Number.same g.met.N.Number.form c.args.text.now (Err NotHeld) (raw.p, raw.q, nat_abs raw.m, s, v) j }

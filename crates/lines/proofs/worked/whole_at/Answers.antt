@@ -7,6 +7,6 @@ use Rattle.lines.proofs.worked.whole_at.Goals as goal
 
 pub returns : goal.returns
 returns g c =
-    subst (λ (z : ℤ). Worked g.N.Kind.find c.args.mark (whole_e g.row.N-Number.radicand z) c.at_place.result) (to_z-of_z w64 c.args.w c.ranges.w)
-    (worked g.row.N-Number.value g.N.Kind.find g.met.N.Kind.finds g.met.N.Number.same (whole_e g.row.N-Number.radicand (to_z w64 (of_z w64 c.args.w))) c.args.mark
+    subst (λ (z : ℤ). Worked g.N.Kind.find c.args.mark (whole_e g.N.Number.radicand z) c.at_place.result) (to_z-of_z w64 c.args.w c.ranges.w)
+    (worked g.N.Number.value g.N.Kind.find g.met.N.Kind.finds g.met.N.Number.same (whole_e g.N.Number.radicand (to_z w64 (of_z w64 c.args.w))) c.args.mark
     c.whole.result c.at_place.result c.whole.ensures c.at_place.ensures)

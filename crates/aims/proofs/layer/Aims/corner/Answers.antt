@@ -8,13 +8,13 @@ pub returns-in_err-sum : goal.returns-in_err-sum
 returns-in_err-sum g c =
     let b = g.L.Line.meaning c.args.self.now.below in
     passed _ c.in_err-sum.field-0.0 c.from-residual.result
-    (corner_stays g.row.L-Number-Number.value g.L.Number.Kind.find (aim c.args.self.now.aims) b c.args.mark c.args.stop c.args.last (c.args.last - b.nx) 0 (min b.nx 4) c.in_err-sum.field-0.0.mark (omega arith) c.in_err-sum.ensures)
+    (corner_stays g.L.Number.Number.value g.L.Number.Kind.find (aim c.args.self.now.aims) b c.args.mark c.args.stop c.args.last (c.args.last - b.nx) 0 (min b.nx 4) c.in_err-sum.field-0.0.mark (omega arith) c.in_err-sum.ensures)
     c.from-residual.ensures.1
 
 pub returns-in_err-sum-2 : goal.returns-in_err-sum-2
 returns-in_err-sum-2 g c =
     let b = g.L.Line.meaning c.args.self.now.below in
-    let v = g.row.L-Number-Number.value in
+    let v = g.L.Number.Number.value in
     let f = g.L.Number.Kind.find in
     let t = aim c.args.self.now.aims in
     let e = c.in_err-sum-2.field-0.0.mark in
@@ -26,4 +26,4 @@ returns-in_err-sum-2 g c =
 pub loop-k-preserved : goal.loop-k-preserved
 loop-k-preserved g c =
     let b = g.L.Line.meaning c.args.self.now.below in
-    corner_more g.row.L-Number-Number.value g.L.Number.Kind.find (aim c.args.self.now.aims) b c.args.mark c.args.stop c.args.last (c.args.last - b.nx) c.loop-k.k c.loop-k.sum (holds c.in_ok-sum-2.sum) c.loop-k.invariant c.in_ok-sum-2.ensures
+    corner_more g.L.Number.Number.value g.L.Number.Kind.find (aim c.args.self.now.aims) b c.args.mark c.args.stop c.args.last (c.args.last - b.nx) c.loop-k.k c.loop-k.sum (holds c.in_ok-sum-2.sum) c.loop-k.invariant c.in_ok-sum-2.ensures

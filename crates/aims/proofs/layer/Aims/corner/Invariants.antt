@@ -6,4 +6,4 @@ use Rattle.aims.proofs.layer.Aims.corner.Given as goal
 abbrev pub invariant-loop-k : goal.invariant-loop-k
 invariant-loop-k g l =
     let b = g.L.Line.meaning l.self.below in
-    corner g.row.L-Number-Number.value g.L.Number.Kind.find (aim l.self.aims) b l.mark l.stop l.last (l.last - b.nx) l.k ≡ holds l.sum
+    corner g.L.Number.Number.value g.L.Number.Kind.find (aim l.self.aims) b l.mark l.stop l.last (l.last - b.nx) l.k ≡ holds l.sum

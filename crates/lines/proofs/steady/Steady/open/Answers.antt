@@ -17,6 +17,6 @@ returns g c =
       f,
       h,
       refl,
-      steady_unmarked g.row.N-Number.value g.N.Kind.find g.met.N.Kind.finds g.met.N.Number.wholes c.in-Some.stops c.copy_from_slice.new.self c.copy_from_slice-2.new.self c.args.weight
+      steady_unmarked g.N.Number.value g.N.Kind.find g.met.N.Kind.finds g.met.N.Number.wholes c.in-Some.stops c.copy_from_slice.new.self c.copy_from_slice-2.new.self c.args.weight
           (subst (SmallFrom 0) (sym f) (part_small 1 1 3 zs (omega arith) small)) (subst (SmallFrom 0) (sym h) (part_small 1 4 6 zs (omega arith) small)),
     )
