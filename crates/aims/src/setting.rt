@@ -48,7 +48,7 @@ impl<L: Line> Aims<L> {
 
     // In exact numbers the cost at each stop is that of the line below, taken at the lateness less the aims.
     pub fn cost_is_shifted(&self) -> u8
-        ensures { Shifts Number-as-Number.good Number-as-Number.value (aims_line Number-as-Number.value Number-as-Kind.find (aim self.now.aims) (L.Line.meaning self.now.below)) (L.Line.meaning self.now.below) (aim self.now.aims) }
+        ensures { Shifts L.Number.Number.good L.Number.Number.value (aims_line L.Number.Number.value L.Number.Kind.find (aim self.now.aims) (L.Line.meaning self.now.below)) (L.Line.meaning self.now.below) (aim self.now.aims) }
     {
         0
     }

@@ -19,8 +19,8 @@ pub trait Work {
         scratch: &mut [Parts],
     ) -> Result<Sizes, StudyFault>
         ensures { MatchResult result
-            (λ s. (shape s ≡ shape_of (L.Line.meaning line.now)) × WeighGranted Number-as-Number (L.Line.meaning line.now) gains.old gains.new scratch.old scratch.new)
-            (λ e. WeighRefused Number-as-Number (L.Line.meaning line.now) (refusal e) gains.old gains.new scratch.old scratch.new) };
+            (λ s. (shape s ≡ shape_of (L.Line.meaning line.now)) × WeighGranted L.Number.Number (L.Line.meaning line.now) gains.old gains.new scratch.old scratch.new)
+            (λ e. WeighRefused L.Number.Number (L.Line.meaning line.now) (refusal e) gains.old gains.new scratch.old scratch.new) };
 
     fn begin_trail<N: Number + Copy>(
         sizes: Sizes,

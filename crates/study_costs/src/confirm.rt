@@ -15,7 +15,7 @@ pub fn confirm_at<L: Line>(
     made: &[Parts],
     trail: &mut [Parts],
 ) -> Result<Standing, StudyFault>
-    ensures { ConfirmAnswer Number-as-Number (L.Line.meaning line.now) at made.now trail.old trail.new result }
+    ensures { ConfirmAnswer L.Number.Number (L.Line.meaning line.now) at made.now trail.old trail.new result }
 {
     let sizes = at.sizes;
     if !sizes.are_of(line) {

@@ -45,7 +45,7 @@ pub fn next_lateness<L: Line>(
     trail: &[Parts],
 ) -> Result<[Parts; 4], StudyFault>
     requires { trail_need (shape at.sizes) ≤ length trail.now }
-    ensures { NextAnswer Number-as-Number (L.Line.meaning line.now) at made.now trail.now result }
+    ensures { NextAnswer L.Number.Number (L.Line.meaning line.now) at made.now trail.now result }
 {
     let lateness = from_lateness(at.sizes, at.stop, trail);
     let mut rows = [ZERO; 4];

@@ -7,5 +7,5 @@ use lines::line::Line;
 
 // From begin until abandon or close: confirmed cost + least cost from here = least cost from the start + excess; and the rest of the law.
 pub fn every_run_keeps_the_law<L: Line>()
-    ensures { (l : L) → StudyLaw Number-as-Number (L.Line.meaning l) Number-as-Kind.find }
+    ensures { (l : L) → StudyLaw L.Number.Number (L.Line.meaning l) L.Number.Kind.find }
 {}

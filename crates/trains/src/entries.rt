@@ -80,11 +80,11 @@ fn raise<N: Kind + Copy>(entry: N, sum: i64, mark: Mark) -> Result<N, LineFault>
 impl<L: Line> Line for Trains<L> {
     type Number = L::Number;
 
-    ghost meaning = { λ s. trains_line Number-as-Number.value Number-as-Kind.find (held s.book) (L.Line.meaning s.below) };
+    ghost meaning = { λ s. trains_line L.Number.Number.value L.Number.Kind.find (held s.book) (L.Line.meaning s.below) };
 
-    ghost lawful = { λ s. trains_lawful Number-as-Number.value Number-as-Kind.find (held s.book) (L.Line.meaning s.below) (L.Line.lawful s.below) };
+    ghost lawful = { λ s. trains_lawful L.Number.Number.value L.Number.Kind.find (held s.book) (L.Line.meaning s.below) (L.Line.lawful s.below) };
 
-    ghost levelled = { λ s. trains_levelled Number-as-Number.value Number-as-Kind.find (held s.book) (L.Line.meaning s.below) (L.Line.levelled s.below) };
+    ghost levelled = { λ s. trains_levelled L.Number.Number.value L.Number.Kind.find (held s.book) (L.Line.meaning s.below) (L.Line.levelled s.below) };
 
     fn stops(&self) -> usize {
         self.below.stops()

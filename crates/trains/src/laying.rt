@@ -44,7 +44,7 @@ impl<L: Line> Trains<L> {
         ensures line { result.below ≡ below }
         ensures book { result.book ≡ book }
         ensures sums { SumsFit (held book).trains }
-        ensures cost { Fits (held book).sizes (L.Line.meaning below) → Adds Number-as-Number.good Number-as-Number.value (trains_line Number-as-Number.value Number-as-Kind.find (held book) (L.Line.meaning below)) (L.Line.meaning below) (held book).trains }
+        ensures cost { Fits (held book).sizes (L.Line.meaning below) → Adds L.Number.Number.good L.Number.Number.value (trains_line L.Number.Number.value L.Number.Kind.find (held book) (L.Line.meaning below)) (L.Line.meaning below) (held book).trains }
     {
         Trains { below, book }
     }
@@ -52,7 +52,7 @@ impl<L: Line> Trains<L> {
 
 // Trains over aims over any line, if the book fits it: the cost is that of the line at the lateness less the aims, plus that of the trains.
 pub fn lay<L: Line + Drop>(aims: Aims<L>, book: Book) -> Result<Trains<Aims<L>>, FitFault>
-    ensures { MatchResult result (λ s. (s.below ≡ aims) × (s.book ≡ book) × Fits (held book).sizes (L.Line.meaning aims.below) × ShiftsAndAdds Number-as-Number.good Number-as-Number.value (trains_line Number-as-Number.value Number-as-Kind.find (held book) (aims_line Number-as-Number.value Number-as-Kind.find (aim aims.aims) (L.Line.meaning aims.below))) (L.Line.meaning aims.below) (aim aims.aims) (held book).trains) (λ _. Fits (held book).sizes (L.Line.meaning aims.below) → ⊥) }
+    ensures { MatchResult result (λ s. (s.below ≡ aims) × (s.book ≡ book) × Fits (held book).sizes (L.Line.meaning aims.below) × ShiftsAndAdds L.Number.Number.good L.Number.Number.value (trains_line L.Number.Number.value L.Number.Kind.find (held book) (aims_line L.Number.Number.value L.Number.Kind.find (aim aims.aims) (L.Line.meaning aims.below))) (L.Line.meaning aims.below) (aim aims.aims) (held book).trains) (λ _. Fits (held book).sizes (L.Line.meaning aims.below) → ⊥) }
 {
     fits(&aims, &book)?;
     Ok(Trains::over(aims, book))

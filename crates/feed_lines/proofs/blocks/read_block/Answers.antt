@@ -10,7 +10,7 @@ use Rattle.feed_lines.proofs.blocks.read_block.Goals as goal
 
 pub returns-in-err-label : goal.returns-in-err-label
 returns-in-err-label c =
-    let p = err_from_is_err_and c.from-residual.result c.from-residual.ensures.1 in
+    let p = err_from_is_err_and c.from_residual.result c.from_residual.ensures.1 in
     rw (p.1, p.2)
     (refused_line c.args.sizes c.args.feed.now c.args.from c.args.from 0 _ _ _ (omega arith)
     (none_read c.args.sizes c.args.feed.now c.args.from c.requires.sizes c.requires.place)
@@ -18,7 +18,7 @@ returns-in-err-label c =
 
 pub returns-in-err-stop : goal.returns-in-err-stop
 returns-in-err-stop c =
-    let p = err_from_is_err_and c.from-residual-in-err-stop.result c.from-residual-in-err-stop.ensures.1 in
+    let p = err_from_is_err_and c.from_residual-in-err-stop.result c.from_residual-in-err-stop.ensures.1 in
     rw (p.1, p.2)
     (refused_line c.args.sizes c.args.feed.now c.args.from c.in-ok-label.after-label 1 _ _ _ (omega arith)
     (read_label c.args.sizes c.args.feed.now c.args.from c.requires.sizes c.requires.place c.in-ok-label.label c.in-ok-label.after-label c.in-ok-label.ensures.0 c.in-ok-label.ensures.1)
@@ -26,7 +26,7 @@ returns-in-err-stop c =
 
 pub returns-in-err-weight : goal.returns-in-err-weight
 returns-in-err-weight c =
-    let p = err_from_is_err_and c.from-residual-in-err-weight.result c.from-residual-in-err-weight.ensures.1 in
+    let p = err_from_is_err_and c.from_residual-in-err-weight.result c.from_residual-in-err-weight.ensures.1 in
     rw (p.1, p.2)
     (refused_line c.args.sizes c.args.feed.now c.args.from c.in-ok-stop.after_stop 2 _ _ _ (omega arith)
     (read_stop c.args.sizes c.args.feed.now c.args.from c.requires.sizes c.requires.place c.in-ok-label.label c.in-ok-stop.stop c.in-ok-label.after-label c.in-ok-stop.after_stop (omega (arith, c.in-ok-stop.ensures.1, c.from-last.ensures)) (read_label c.args.sizes c.args.feed.now c.args.from c.requires.sizes c.requires.place c.in-ok-label.label c.in-ok-label.after-label c.in-ok-label.ensures.0 c.in-ok-label.ensures.1) c.in-ok-stop.ensures.2)
@@ -34,7 +34,7 @@ returns-in-err-weight c =
 
 pub returns-in-err-late : goal.returns-in-err-late
 returns-in-err-late c =
-    let p = err_from_is_err_and c.from-residual-in-err-late.result c.from-residual-in-err-late.ensures.1 in
+    let p = err_from_is_err_and c.from_residual-in-err-late.result c.from_residual-in-err-late.ensures.1 in
     rw (p.1, p.2)
     (refused_line c.args.sizes c.args.feed.now c.args.from c.in-ok-weight.after-weight 3 _ _ _ (omega arith)
     (read_weight c.args.sizes c.args.feed.now c.args.from c.requires.sizes c.requires.place c.in-ok-label.label c.in-ok-stop.stop c.in-ok-weight.weight c.in-ok-stop.after_stop c.in-ok-weight.after-weight c.in-ok-weight.ensures.0 c.in-ok-weight.ensures.1 (read_stop c.args.sizes c.args.feed.now c.args.from c.requires.sizes c.requires.place c.in-ok-label.label c.in-ok-stop.stop c.in-ok-label.after-label c.in-ok-stop.after_stop (omega (arith, c.in-ok-stop.ensures.1, c.from-last.ensures)) (read_label c.args.sizes c.args.feed.now c.args.from c.requires.sizes c.requires.place c.in-ok-label.label c.in-ok-label.after-label c.in-ok-label.ensures.0 c.in-ok-label.ensures.1) c.in-ok-stop.ensures.2) c.in-ok-weight.ensures.2)
@@ -42,7 +42,7 @@ returns-in-err-late c =
 
 pub returns-in-err-moves : goal.returns-in-err-moves
 returns-in-err-moves c =
-    let p = err_from_is_err_and c.from-residual-in-err-moves.result c.from-residual-in-err-moves.ensures.1 in
+    let p = err_from_is_err_and c.from_residual-in-err-moves.result c.from_residual-in-err-moves.ensures.1 in
     rw (p.1, p.2)
     (refused_line c.args.sizes c.args.feed.now c.args.from c.in-ok-late.after-late 4 _ _ _ (omega arith)
     (read_late c.args.sizes c.args.feed.now c.args.from c.requires.sizes c.requires.place c.in-ok-label.label c.in-ok-stop.stop c.in-ok-weight.weight c.in-ok-late.late c.in-ok-weight.after-weight c.in-ok-late.after-late c.in-ok-late.ensures.0 (read_weight c.args.sizes c.args.feed.now c.args.from c.requires.sizes c.requires.place c.in-ok-label.label c.in-ok-stop.stop c.in-ok-weight.weight c.in-ok-stop.after_stop c.in-ok-weight.after-weight c.in-ok-weight.ensures.0 c.in-ok-weight.ensures.1 (read_stop c.args.sizes c.args.feed.now c.args.from c.requires.sizes c.requires.place c.in-ok-label.label c.in-ok-stop.stop c.in-ok-label.after-label c.in-ok-stop.after_stop (omega (arith, c.in-ok-stop.ensures.1, c.from-last.ensures)) (read_label c.args.sizes c.args.feed.now c.args.from c.requires.sizes c.requires.place c.in-ok-label.label c.in-ok-label.after-label c.in-ok-label.ensures.0 c.in-ok-label.ensures.1) c.in-ok-stop.ensures.2) c.in-ok-weight.ensures.2) c.in-ok-late.ensures.2)
@@ -50,7 +50,7 @@ returns-in-err-moves c =
 
 pub returns-in-err-aim : goal.returns-in-err-aim
 returns-in-err-aim c =
-    let p = err_from_is_err_and c.from-residual-in-err-aim.result c.from-residual-in-err-aim.ensures.1 in
+    let p = err_from_is_err_and c.from_residual-in-err-aim.result c.from_residual-in-err-aim.ensures.1 in
     rw (p.1, p.2)
     (refused_line c.args.sizes c.args.feed.now c.args.from c.in-ok-moves.after-move 5 _ _ _ (omega arith)
     (read_moves c.args.sizes c.args.feed.now c.args.from c.requires.sizes c.requires.place c.in-ok-label.label c.in-ok-stop.stop c.in-ok-weight.weight c.in-ok-late.late c.in-ok-moves.moves c.in-ok-late.after-late c.in-ok-moves.after-move c.in-ok-moves.ensures.0 (λ e. c.in-ok-moves.ensures.1 (eq-eqb _ _ (e ∙ sym c.from-last.ensures))) (read_late c.args.sizes c.args.feed.now c.args.from c.requires.sizes c.requires.place c.in-ok-label.label c.in-ok-stop.stop c.in-ok-weight.weight c.in-ok-late.late c.in-ok-weight.after-weight c.in-ok-late.after-late c.in-ok-late.ensures.0 (read_weight c.args.sizes c.args.feed.now c.args.from c.requires.sizes c.requires.place c.in-ok-label.label c.in-ok-stop.stop c.in-ok-weight.weight c.in-ok-stop.after_stop c.in-ok-weight.after-weight c.in-ok-weight.ensures.0 c.in-ok-weight.ensures.1 (read_stop c.args.sizes c.args.feed.now c.args.from c.requires.sizes c.requires.place c.in-ok-label.label c.in-ok-stop.stop c.in-ok-label.after-label c.in-ok-stop.after_stop (omega (arith, c.in-ok-stop.ensures.1, c.from-last.ensures)) (read_label c.args.sizes c.args.feed.now c.args.from c.requires.sizes c.requires.place c.in-ok-label.label c.in-ok-label.after-label c.in-ok-label.ensures.0 c.in-ok-label.ensures.1) c.in-ok-stop.ensures.2) c.in-ok-weight.ensures.2) c.in-ok-late.ensures.2) c.in-ok-moves.ensures.2)

@@ -10,7 +10,7 @@ returns-then-end-feed c k value more lacks e =
     ⊎_elim (λ h. omega (arith, p.ends)) (λ h. omega (arith, h.1, p.parts)) c.then-end-feed.either
 
 pub returns-in-err-key : goal.returns-in-err-key
-returns-in-err-key c = rw c.from-residual.ensures (λ k value more lacks e.
+returns-in-err-key c = rw c.from_residual.ensures (λ k value more lacks e.
     let p = parted c.args.feed.now c.args.from.at c.find-mid.result c.find-end.result k value more c.requires.within c.find-end.ensures c.find-mid.ensures lacks e in
     c.in-err-key.ensures (k, p.front))
 

@@ -32,7 +32,7 @@ returns-then-end-text g c zs many small e =
     (differ _ _ _ _ c.if-end-text.true)
 
 pub returns-in-err-z : goal.returns-in-err-z
-returns-in-err-z g c = rw c.from-residual.ensures (λ zs many small e.
+returns-in-err-z g c = rw c.from_residual.ensures (λ zs many small e.
     wrong_word c.args.text.now c.args.count g.row.N c.loop-k.k c.loop-k.at c.find-end.result c.loop-k.out c.loop-k.invariant c.loop-k-test.true c.requires.1 c.find-end.ensures zs many small e
     c.in-err-z.ensures)
 

@@ -10,7 +10,7 @@ pub returns-then-is-empty : goal.returns-then-is-empty
 returns-then-is-empty c z h e = empty_signed z c.args.most (omega arith) h c.args.text.now (eqb-true _ 0 (sym c.if-is-empty.ensures)) e
 
 pub returns-in-err-n-2 : goal.returns-in-err-n-2
-returns-in-err-n-2 c = rw c.from-residual-in-err-n-2.ensures
+returns-in-err-n-2 c = rw c.from_residual-in-err-n-2.ensures
     (λ z h e. minus_none c.args.text.now c.args.most (omega arith) c.if-text-ne45.false (λ n p q d. c.in-err-n-2.ensures n q (take_rest c.args.text.now 1 ∙ d)) z h e)
 
 pub returns-then-n-eq0 : goal.returns-then-n-eq0

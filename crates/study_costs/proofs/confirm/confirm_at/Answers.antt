@@ -22,8 +22,8 @@ enter-requires-2 g c =
 
 pub returns : goal.returns
 returns g c =
-    let N = g.Number.Number in
-    let met = g.met.Number.Number in
+    let N = g.L.Number.Number in
+    let met = g.met.L.Number.Number in
     let m = g.L.Line.meaning c.args.line.now in
     let s = shape c.args.at.sizes in
     let same = told_true _ _ c.are_of.ensures c.if-not-are_of.false in

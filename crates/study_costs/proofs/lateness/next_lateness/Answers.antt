@@ -13,15 +13,15 @@ use Rattle.study_costs.proofs.lateness.next_lateness.Given as given
 use Rattle.study_costs.proofs.lateness.next_lateness.Goals as goal
 
 -- the numbers of the next lateness, from the lateness x
-abbrev numbers : (g : given.Over) → g.row.L.Denot → Departing → List Parts → (ℕ → NumberOf g.Number.Number) → ℕ → Formula g.row.L-Number.Denot (NumberOf g.Number.Number)
-numbers g line d made x j = next_formula g.Number.Number (shape d.sizes) (g.L.Line.meaning line) d.stop j (at g.Number.Number made) x
+abbrev numbers : (g : given.Over) → g.row.L.Denot → Departing → List Parts → (ℕ → NumberOf g.L.Number.Number) → ℕ → Formula g.row.L-Number.Denot (NumberOf g.L.Number.Number)
+numbers g line d made x j = next_formula g.L.Number.Number (shape d.sizes) (g.L.Line.meaning line) d.stop j (at g.L.Number.Number made) x
 
 pub loop-j-init : goal.loop-j-init
 loop-j-init g c = (refl, λ j l. absurd (omega arith))
 
 pub loop-j-preserved : goal.loop-j-preserved
 loop-j-preserved g c =
-    let N = g.Number.Number in
+    let N = g.L.Number.Number in
     let few = c.args.at.sizes.few_states in
     let long = c.loop-j.invariant.0 in
     let l : c.loop-j.j < length c.loop-j.rows = omega arith in (
@@ -32,7 +32,7 @@ loop-j-preserved g c =
 
 pub returns-in-Err : goal.returns-in-Err
 returns-in-Err g c =
-    let N = g.Number.Number in
+    let N = g.L.Number.Number in
     let f = numbers g c.args.line.now c.args.at c.args.made.now in
     let b = c.in-Err.field-0 in
     let e = lateness_read N (shape c.args.at.sizes) c.args.trail.now c.args.at.stop c.from_lateness-lateness.result.now c.from_lateness-lateness.ensures in
@@ -42,7 +42,7 @@ returns-in-Err g c =
 
 pub returns : goal.returns
 returns g c =
-    let N = g.Number.Number in
+    let N = g.L.Number.Number in
     let f = numbers g c.args.line.now c.args.at c.args.made.now in
     let e = lateness_read N (shape c.args.at.sizes) c.args.trail.now c.args.at.stop c.from_lateness-lateness.result.now c.from_lateness-lateness.ensures in
     let n : c.loop-j.j ≡ c.args.at.sizes.states = omega arith in

@@ -7,6 +7,6 @@ use Rattle.study_costs.proofs.lateness.next_lateness.Given as goal
 
 abbrev pub invariant-loop-j : goal.invariant-loop-j
 invariant-loop-j g l =
-    let N = g.Number.Number in
+    let N = g.L.Number.Number in
     (length l.rows ≡ 4)
     × WorkedRows N (λ j. next_formula N (shape l.at.sizes) (g.L.Line.meaning l.line) l.at.stop j (at N l.made) (at N l.lateness)) l.j l.rows

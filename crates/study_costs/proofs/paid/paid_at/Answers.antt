@@ -13,7 +13,7 @@ returns-in-Ok g c =
     let same = told_true _ _ c.are_of.ensures c.if-not-are_of.false in
     record {
       passes = (same, (long_enough _ _ _ c.trail_length.ensures c.if-trail-trail_length.false, c.in-Ok.ensures.0));
-      answer = subst (λ y. g.Number.Number.value c.in-Ok.x ≡ y) (paid_number g.Number.Number m s (same_shapes (shape_of m) s same) c.args.trail.now c.args.at.stop) c.in-Ok.ensures.1;
+      answer = subst (λ y. g.L.Number.Number.value c.in-Ok.x ≡ y) (paid_number g.L.Number.Number m s (same_shapes (shape_of m) s same) c.args.trail.now c.args.at.stop) c.in-Ok.ensures.1;
     }
 
 pub returns-in-Err : goal.returns-in-Err

@@ -12,11 +12,11 @@ use Rattle.study_costs.proofs.FormTerms.{term_more, row_more, entry_fault, term_
 use Rattle.study_costs.proofs.paid.stage_cost.Given as given
 use Rattle.study_costs.proofs.paid.stage_cost.Goals as goal
 
-abbrev entries : (g : given.Over) → g.row.L.Denot → ℕ → ℕ → ℕ → Formula g.row.L-Number.Denot (NumberOf g.Number.Number)
+abbrev entries : (g : given.Over) → g.row.L.Denot → ℕ → ℕ → ℕ → Formula g.row.L-Number.Denot (NumberOf g.L.Number.Number)
 entries g line n a c = asked ((g.L.Line.meaning line).G n a c)
 
-abbrev list : (g : given.Over) → Sizes → (adjustments lateness : List Parts) → ℕ → NumberOf g.Number.Number
-list g s u x = stacked_list g.Number.Number (shape s) (at g.Number.Number u) (at g.Number.Number x)
+abbrev list : (g : given.Over) → Sizes → (adjustments lateness : List Parts) → ℕ → NumberOf g.L.Number.Number
+list g s u x = stacked_list g.L.Number.Number (shape s) (at g.L.Number.Number u) (at g.L.Number.Number x)
 
 pub loop-a-init : goal.loop-a-init
 loop-a-init g c = (tt, c.zero-total.ensures)
@@ -26,7 +26,7 @@ loop-c-init g c = c.loop-a.invariant
 
 pub loop-c-preserved : goal.loop-c-preserved
 loop-c-preserved g c =
-    let N = g.Number.Number in
+    let N = g.L.Number.Number in
     let M = entries g c.args.line.now c.args.stop in
     let z = list g c.args.sizes c.args.adjustments.now c.args.lateness.now in
     let e = (g.L.Line.meaning c.args.line.now).G c.args.stop c.loop-a.a c.loop-c.c in
@@ -39,28 +39,28 @@ pub loop-a-preserved : goal.loop-a-preserved
 loop-a-preserved g c =
     let M = entries g c.args.line.now c.args.stop in
     let z = list g c.args.sizes c.args.adjustments.now c.args.lateness.now in
-    row_more g.Number.Number c.wide-wide.result M z c.loop-a.a c.loop-c.c c.loop-c.total (omega arith) c.loop-c.invariant
+    row_more g.L.Number.Number c.wide-wide.result M z c.loop-a.a c.loop-c.c c.loop-c.total (omega arith) c.loop-c.invariant
 
 pub returns-in_err-entry : goal.returns-in_err-entry
 returns-in_err-entry g c =
-    let N = g.Number.Number in
+    let N = g.L.Number.Number in
     let M = entries g c.args.line.now c.args.stop in
     let z = list g c.args.sizes c.args.adjustments.now c.args.lateness.now in
     let e = (g.L.Line.meaning c.args.line.now).G c.args.stop c.loop-a.a c.loop-c.c in
     let b = Marked c.in_err-entry.field-0.0.mark in
-    exits N (form_formula N (width (shape c.args.sizes)) M z) c.from-residual.result b c.from-residual.ensures.1
+    exits N (form_formula N (width (shape c.args.sizes)) M z) c.from_residual.result b c.from_residual.ensures.1
     (subst (λ w. FirstFault N (form_formula N w M z) b) c.wide-wide.ensures
     (entry_fault N c.wide-wide.result M z c.loop-a.a c.loop-c.c c.loop-c.total b (omega arith) (omega arith) c.loop-c.invariant
     (asked_err N e c.in_err-entry.field-0.0.mark c.in_err-entry.ensures)))
 
 pub returns-in_err-total : goal.returns-in_err-total
 returns-in_err-total g c =
-    let N = g.Number.Number in
+    let N = g.L.Number.Number in
     let M = entries g c.args.line.now c.args.stop in
     let z = list g c.args.sizes c.args.adjustments.now c.args.lateness.now in
     let e = (g.L.Line.meaning c.args.line.now).G c.args.stop c.loop-a.a c.loop-c.c in
     let b = c.in_err-total.field-0.0 in
-    exits N (form_formula N (width (shape c.args.sizes)) M z) c.from-residual-in_err-total.result b c.from-residual-in_err-total.ensures.1
+    exits N (form_formula N (width (shape c.args.sizes)) M z) c.from_residual-in_err-total.result b c.from_residual-in_err-total.ensures.1
     (subst (λ w. FirstFault N (form_formula N w M z) b) c.wide-wide.ensures
     (term_fault N c.wide-wide.result M z c.loop-a.a c.loop-c.c
     c.loop-c.total c.in_ok-entry.entry c.stacked_entry-left.result c.stacked_entry-right.result b (omega arith) (omega arith)
@@ -69,7 +69,7 @@ returns-in_err-total g c =
 
 pub returns : goal.returns
 returns g c =
-    let N = g.Number.Number in
+    let N = g.L.Number.Number in
     let M = entries g c.args.line.now c.args.stop in
     let z = list g c.args.sizes c.args.adjustments.now c.args.lateness.now in
     let e : c.loop-a.a ≡ c.wide-wide.result = omega arith in

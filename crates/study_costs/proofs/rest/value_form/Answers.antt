@@ -45,7 +45,7 @@ returns-in_err-total g c =
     let b = c.in_err-total.field-0.0 in
     let M = entries g c.args.at c.args.gains.now in
     let z = list g c.args.at c.args.lateness.now in
-    exits N (form_formula N (suc c.args.at.sizes.states) M z) c.from-residual.result b c.from-residual.ensures.1
+    exits N (form_formula N (suc c.args.at.sizes.states) M z) c.from_residual.result b c.from_residual.ensures.1
     (subst (λ w. FirstFault N (form_formula N w M z) b) w
     (term_fault N (c.args.at.sizes.states + 1) M z c.loop-a.a c.loop-c.c
     c.loop-c.total c.number_at-entry.result c.state_entry-left.result c.state_entry-right.result b (omega arith) (omega arith)

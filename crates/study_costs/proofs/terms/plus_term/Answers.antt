@@ -16,5 +16,5 @@ returns-in_err-scaled g c f h u v =
     let N = g.N.Number in
     let x = known (N.value c.args.left) in
     let y = known (N.value c.args.right) in
-    exits N (plus f (times (times h x) y)) c.from-residual.result TooLarge c.from-residual.ensures.1
+    exits N (plus f (times (times h x) y)) c.from_residual.result TooLarge c.from_residual.ensures.1
     (inr (inl (u.0, inl (times_err N h x c.args.entry c.args.left v (tt, refl) (not_held N (mul_e (N.value c.args.entry) (N.value c.args.left)) c.in_err-scaled.field-0.0 c.in_err-scaled.ensures)))))

@@ -32,7 +32,7 @@ returns-in_err-square g c =
     let s = known (N.value a.total) in
     let f = square_formula N (shape a.here.sizes) a.gains.now a.trail.now a.here.stop in
     let b = c.in_err-square.field-0.0 in
-    exits N (sums s a.here.sizes.inputs f) c.from-residual.result b c.from-residual.ensures.1
+    exits N (sums s a.here.sizes.inputs f) c.from_residual.result b c.from_residual.ensures.1
     (sum_term N s f c.loop-i.i a.here.sizes.inputs c.loop-i.total b (omega arith) c.loop-i.invariant c.in_err-square.ensures)
 
 pub returns-in_err-total : goal.returns-in_err-total
@@ -41,6 +41,6 @@ returns-in_err-total g c =
     let a = c.args in
     let s = known (N.value a.total) in
     let f = square_formula N (shape a.here.sizes) a.gains.now a.trail.now a.here.stop in
-    exits N (sums s a.here.sizes.inputs f) c.from-residual-in_err-total.result TooLarge c.from-residual-in_err-total.ensures.1
+    exits N (sums s a.here.sizes.inputs f) c.from_residual-in_err-total.result TooLarge c.from_residual-in_err-total.ensures.1
     (sum_large N s f c.loop-i.i a.here.sizes.inputs c.loop-i.total c.in_ok-square.square (omega arith) c.loop-i.invariant
     c.in_ok-square.ensures (not_held N _ _ c.in_err-total.ensures))

@@ -7,7 +7,7 @@ use Rattle.study_gaps.proofs.excess.excess_at.Goals as goal
 
 pub returns-in_err-check_sheets : goal.returns-in_err-check_sheets
 returns-in_err-check_sheets g c =
-    let p = err_from_is_err_and c.from-residual.result c.from-residual.ensures.1 in
+    let p = err_from_is_err_and c.from_residual.result c.from_residual.ensures.1 in
     rw (p.1, p.2) (inl c.in_err-check_sheets.ensures)
 
 pub returns-in-Ok : goal.returns-in-Ok

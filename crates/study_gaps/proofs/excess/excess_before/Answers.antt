@@ -32,6 +32,6 @@ returns-in_err-total g c =
     let a = c.args in
     let s = shape a.at.sizes in
     let b = c.in_err-total.field-0.0 in
-    exits N (excess_formula N s a.gains.now a.trail.now a.at.stop) c.from-residual.result b c.from-residual.ensures.1
+    exits N (excess_formula N s a.gains.now a.trail.now a.at.stop) c.from_residual.result b c.from_residual.ensures.1
     (excess_fault N s a.gains.now a.trail.now b a.at.stop (suc c.loop-n.n) (omega arith)
     (excess_more N s a.gains.now a.trail.now c.loop-n.n c.loop-n.total (Err b) c.loop-n.invariant c.in_err-total.ensures))

@@ -14,7 +14,7 @@ returns-in_err-sum g c =
     let a = c.args in
     let b = c.in_err-sum.field-0.0 in
     let e = in_the_trail N a.here a.trail.now c.lateness_place.result c.lateness_place.ensures.value in
-    exits N (gap_here N a.here a.gains.now a.trail.now a.input) c.from-residual.result b c.from-residual.ensures.1
+    exits N (gap_here N a.here a.gains.now a.trail.now a.input) c.from_residual.result b c.from_residual.ensures.1
     (inr (inl (tt, subst (λ (u : ℕ → NumberOf N). FirstFault N (later_here N a.here a.gains.now a.trail.now u a.input) b) e c.in_err-sum.ensures)))
 
 pub returns : goal.returns
@@ -37,7 +37,7 @@ returns-in_err-plus g c =
     let later : (ℕ → NumberOf N) → Formula _ (NumberOf N) = λ u. later_here N a.here a.gains.now a.trail.now u a.input in
     let sum = c.in_ok-sum.sum in
     let e = in_the_trail N a.here a.trail.now c.lateness_place.result c.lateness_place.ensures.value in
-    exits N (gap_here N a.here a.gains.now a.trail.now a.input) c.from-residual-in_err-plus.result TooLarge c.from-residual-in_err-plus.ensures.1
+    exits N (gap_here N a.here a.gains.now a.trail.now a.input) c.from_residual-in_err-plus.result TooLarge c.from_residual-in_err-plus.ensures.1
     (plus_err N (known (u a.input)) (later u) c.number_at-made.result sum
     (tt, c.number_at-made.ensures ∙ ap (λ (u : ℕ → NumberOf N). u a.input) e) (subst (λ u. Outcome N (later u) (Ok sum)) e c.in_ok-sum.ensures)
     (not_held N _ _ c.in_err-plus.ensures))

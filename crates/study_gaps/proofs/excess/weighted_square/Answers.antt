@@ -12,16 +12,16 @@ pub returns-in_err-gap : goal.returns-in_err-gap
 returns-in_err-gap g c =
     let N = g.N.Number in
     let a = c.args in
-    exits N (square_formula N (shape a.here.sizes) a.gains.now a.trail.now a.here.stop a.input) c.from-residual.result
-    c.in_err-gap.field-0.0 c.from-residual.ensures.1 (inl (inr (inl (tt, c.in_err-gap.ensures))))
+    exits N (square_formula N (shape a.here.sizes) a.gains.now a.trail.now a.here.stop a.input) c.from_residual.result
+    c.in_err-gap.field-0.0 c.from_residual.ensures.1 (inl (inr (inl (tt, c.in_err-gap.ensures))))
 
 pub returns-in_err-product : goal.returns-in_err-product
 returns-in_err-product g c =
     let N = g.N.Number in
     let a = c.args in
     let p = factors_here N a.here a.gains.now a.input a.input in
-    exits N (square_formula N (shape a.here.sizes) a.gains.now a.trail.now a.here.stop a.input) c.from-residual-in_err-product.result
-    TooLarge c.from-residual-in_err-product.ensures.1
+    exits N (square_formula N (shape a.here.sizes) a.gains.now a.trail.now a.here.stop a.input) c.from_residual-in_err-product.result
+    TooLarge c.from_residual-in_err-product.ensures.1
     (inl (times_err N (known p) (gap_here N a.here a.gains.now a.trail.now a.input) c.number_at-pivot.result c.in_ok-gap.gap
     (tt, c.number_at-pivot.ensures ∙ ap (λ t. at N a.gains.now (t + a.input)) c.row_place.ensures.value) c.in_ok-gap.ensures
     (not_held N _ _ c.in_err-product.ensures)))
@@ -51,7 +51,7 @@ returns-in_err-times g c =
     times_ok N (known p) f c.number_at-pivot.result c.in_ok-gap.gap
     (tt, c.number_at-pivot.ensures ∙ ap (λ t. at N a.gains.now (t + a.input)) c.row_place.ensures.value) gap
     c.in_ok-product.product c.in_ok-product.ensures in
-    exits N (square_formula N (shape a.here.sizes) a.gains.now a.trail.now a.here.stop a.input) c.from-residual-in_err-times.result
-    TooLarge c.from-residual-in_err-times.ensures.1
+    exits N (square_formula N (shape a.here.sizes) a.gains.now a.trail.now a.here.stop a.input) c.from_residual-in_err-times.result
+    TooLarge c.from_residual-in_err-times.ensures.1
     (times_err N (times (known p) f) (known (exact N f)) c.in_ok-product.product c.in_ok-gap.gap product (tt, gap.1)
     (not_held N _ _ c.in_err-times.ensures))

@@ -34,7 +34,7 @@ returns-in_err-product g c =
     let n = c.loop-n.n in
     let s = known (N.value a.total) in
     let f = products N a.left.now a.i a.right.now a.j in
-    exits N (sums s a.count f) c.from-residual.result TooLarge c.from-residual.ensures.1
+    exits N (sums s a.count f) c.from_residual.result TooLarge c.from_residual.ensures.1
     (sum_term N s f n a.count c.loop-n.total TooLarge (omega arith) c.loop-n.invariant
     (times_err N (known (at N a.left.now (a.i + n))) (known (at N a.right.now (a.j + n))) c.number_at-x.result c.number_at-y.result
     (tt, c.number_at-x.ensures) (tt, c.number_at-y.ensures) (not_held N _ _ c.in_err-product.ensures)))
@@ -49,5 +49,5 @@ returns-in_err-total g c =
     let product =
     times_ok N (known (at N a.left.now (a.i + n))) (known (at N a.right.now (a.j + n))) c.number_at-x.result c.number_at-y.result
     (tt, c.number_at-x.ensures) (tt, c.number_at-y.ensures) c.in_ok-product.product c.in_ok-product.ensures in
-    exits N (sums s a.count f) c.from-residual-in_err-total.result TooLarge c.from-residual-in_err-total.ensures.1
+    exits N (sums s a.count f) c.from_residual-in_err-total.result TooLarge c.from_residual-in_err-total.ensures.1
     (sum_large N s f n a.count c.loop-n.total c.in_ok-product.product (omega arith) c.loop-n.invariant product (not_held N _ _ c.in_err-total.ensures))

@@ -11,7 +11,7 @@ returns-in_err-inputs g c =
     let row = c.row_place-row in
     let u = numbers_from N a.made.now a.first in
     let b = c.in_err-inputs.field-0.0 in
-    exits N (later_here N a.here a.gains.now a.trail.now u a.input) c.from-residual.result b c.from-residual.ensures.1
+    exits N (later_here N a.here a.gains.now a.trail.now u a.input) c.from_residual.result b c.from_residual.ensures.1
     (inputs_fault N a.here a.gains.now a.input row.result row.ensures.value a.trail.now u b
     (inputs_worked N a.here a.gains.now a.input row.result row.ensures.value a.made.now a.first c.number_at-constant.result (Err b)
     c.number_at-constant.ensures c.in_err-inputs.ensures))

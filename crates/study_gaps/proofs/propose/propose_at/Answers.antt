@@ -5,7 +5,7 @@ use Rattle.study_gaps.proofs.propose.propose_at.Goals as goal
 
 pub returns-in_err-plan : goal.returns-in_err-plan
 returns-in_err-plan g c =
-    let p = err_from_is_err_and c.from-residual-in_err-plan.result c.from-residual-in_err-plan.ensures.1 in
+    let p = err_from_is_err_and c.from_residual-in_err-plan.result c.from_residual-in_err-plan.ensures.1 in
     let before : T (not (eqb c.args.at.stop c.args.at.sizes.stops)) = search rules in
     let slip : T (eqb (length c.args.slip.now) c.args.at.sizes.inputs) = search rules in
     rw (p.1, p.2) (inr (before, inr (c.in_ok-check_sheets.ensures, inr (slip, c.in_err-plan.ensures))), refl)

@@ -16,7 +16,7 @@ use Rattle.study_runs.proofs.performing.from_ordered.Goals as goal
 
 pub returns-in-Ok : goal.returns-in-Ok
 returns-in-Ok g c =
-    let N = g.Number.Number in
+    let N = g.L.Number.Number in
     let m = g.L.Line.meaning c.args.line.now in
     let h = c.in-Ok.ensures in
     let s = shape c.args.study.at.sizes in
@@ -33,7 +33,7 @@ returns-in-Ok g c =
 
 pub returns-in-Err : goal.returns-in-Err
 returns-in-Err g c =
-    let N = g.Number.Number in
+    let N = g.L.Number.Number in
     let m = g.L.Line.meaning c.args.line.now in
     let h = c.in-Err.ensures in
     let s = shape c.args.study.at.sizes in
@@ -45,7 +45,7 @@ returns-in-Err g c =
 
 pub returns-in-Withdraw : goal.returns-in-Withdraw
 returns-in-Withdraw g c =
-    let N = g.Number.Number in
+    let N = g.L.Number.Number in
     let m = g.L.Line.meaning c.args.line.now in
     let s = shape c.args.study.at.sizes in
     let k = c.args.study.at.stop in
@@ -61,5 +61,5 @@ returns-in-Withdraw g c =
 
 pub returns-in_default : goal.returns-in_default
 returns-in_default g c =
-    goes_not g.Number.Number (g.L.Line.meaning c.args.line.now) c.args.command.now (ordered_stage c.args.study) c.args.gains.now c.args.trail.now
+    goes_not g.L.Number.Number (g.L.Line.meaning c.args.line.now) c.args.command.now (ordered_stage c.args.study) c.args.gains.now c.args.trail.now
     (none_ordered (shape c.args.study.at.sizes) c.args.study.at.stop c.args.command.now c.in_default.not-Confirm c.in_default.not-Withdraw)

@@ -13,7 +13,7 @@ use Rattle.study_runs.proofs.performing.from_underway.Goals as goal
 
 pub returns-in-Ok : goal.returns-in-Ok
 returns-in-Ok g c =
-    let N = g.Number.Number in
+    let N = g.L.Number.Number in
     let m = g.L.Line.meaning c.args.line.now in
     let h = c.in-Ok.ensures in
     let s = shape c.args.study.at.sizes in
@@ -30,7 +30,7 @@ returns-in-Ok g c =
 
 pub returns-in-Err : goal.returns-in-Err
 returns-in-Err g c =
-    let N = g.Number.Number in
+    let N = g.L.Number.Number in
     let m = g.L.Line.meaning c.args.line.now in
     let h = c.in-Err.ensures in
     let s = shape c.args.study.at.sizes in
@@ -41,7 +41,7 @@ returns-in-Err g c =
 
 pub returns-in-Paid : goal.returns-in-Paid
 returns-in-Paid g c =
-    let N = g.Number.Number in
+    let N = g.L.Number.Number in
     let m = g.L.Line.meaning c.args.line.now in
     let s = shape c.args.study.at.sizes in
     let k = c.args.study.at.stop in
@@ -50,7 +50,7 @@ returns-in-Paid g c =
 
 pub returns-in-Rest : goal.returns-in-Rest
 returns-in-Rest g c =
-    let N = g.Number.Number in
+    let N = g.L.Number.Number in
     let m = g.L.Line.meaning c.args.line.now in
     let s = shape c.args.study.at.sizes in
     let k = c.args.study.at.stop in
@@ -59,7 +59,7 @@ returns-in-Rest g c =
 
 pub returns-in-Excess : goal.returns-in-Excess
 returns-in-Excess g c =
-    let N = g.Number.Number in
+    let N = g.L.Number.Number in
     let m = g.L.Line.meaning c.args.line.now in
     let s = shape c.args.study.at.sizes in
     let k = c.args.study.at.stop in
@@ -68,7 +68,7 @@ returns-in-Excess g c =
 
 pub returns-in-Abandon : goal.returns-in-Abandon
 returns-in-Abandon g c =
-    let N = g.Number.Number in
+    let N = g.L.Number.Number in
     let m = g.L.Line.meaning c.args.line.now in
     let s = shape c.args.study.at.sizes in
     goes_on N m c.args.command.now Abandon Ended (underway_stage c.args.study) _ (runs.weighed s)
@@ -76,7 +76,7 @@ returns-in-Abandon g c =
 
 pub returns-in-Ok-close : goal.returns-in-Ok-close
 returns-in-Ok-close g c =
-    let N = g.Number.Number in
+    let N = g.L.Number.Number in
     let m = g.L.Line.meaning c.args.line.now in
     let h = c.in-Ok-close.ensures in
     let s = shape c.args.study.at.sizes in
@@ -85,7 +85,7 @@ returns-in-Ok-close g c =
 
 pub returns-in-Err-close : goal.returns-in-Err-close
 returns-in-Err-close g c =
-    let N = g.Number.Number in
+    let N = g.L.Number.Number in
     let m = g.L.Line.meaning c.args.line.now in
     let h = c.in-Err-close.ensures in
     let s = shape c.args.study.at.sizes in
@@ -96,6 +96,6 @@ returns-in-Err-close g c =
 pub returns-in_default : goal.returns-in_default
 returns-in_default g c =
     let r = c.in_default in
-    goes_not g.Number.Number (g.L.Line.meaning c.args.line.now) c.args.command.now (underway_stage c.args.study) c.args.gains.now c.args.trail.now
+    goes_not g.L.Number.Number (g.L.Line.meaning c.args.line.now) c.args.command.now (underway_stage c.args.study) c.args.gains.now c.args.trail.now
     (none_underway (shape c.args.study.at.sizes) c.args.study.at.stop c.args.command.now
     (record { propose = r.not-Propose; paid = r.not-Paid; rest = r.not-Rest; excess = r.not-Excess; abandon = r.not-Abandon; close = r.not-Close }))

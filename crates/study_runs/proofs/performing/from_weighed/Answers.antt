@@ -16,7 +16,7 @@ use Rattle.study_runs.proofs.performing.from_weighed.Goals as goal
 
 pub returns-in-Ok : goal.returns-in-Ok
 returns-in-Ok g c =
-    let N = g.Number.Number in
+    let N = g.L.Number.Number in
     let m = g.L.Line.meaning c.args.line.now in
     let h = c.in-Ok.ensures in
     let s = shape c.args.study.sizes in
@@ -32,7 +32,7 @@ returns-in-Ok g c =
 
 pub returns-in-Err : goal.returns-in-Err
 returns-in-Err g c =
-    let N = g.Number.Number in
+    let N = g.L.Number.Number in
     let m = g.L.Line.meaning c.args.line.now in
     let h = c.in-Err.ensures in
     let s = shape c.args.study.sizes in
@@ -43,5 +43,5 @@ returns-in-Err g c =
 
 pub returns-in_default : goal.returns-in_default
 returns-in_default g c =
-    goes_not g.Number.Number (g.L.Line.meaning c.args.line.now) c.args.command.now (weighed_stage c.args.study) c.args.gains.now c.args.trail.now
+    goes_not g.L.Number.Number (g.L.Line.meaning c.args.line.now) c.args.command.now (weighed_stage c.args.study) c.args.gains.now c.args.trail.now
     (none_weighed (shape c.args.study.sizes) c.args.command.now c.in_default.not-Begin)

@@ -4,11 +4,11 @@ use Rattle.study_runs.proofs.running.perform.Goals as goal
 
 pub returns : goal.returns
 returns g c =
-    let N = g.Number.Number in
+    let N = g.L.Number.Number in
     let m = g.L.Line.meaning c.args.line.now in
-    let laws = g.met.Number.Number in
+    let laws = g.met.L.Number.Number in
     record {
       run = c.perform_in_sheets.ensures;
       law = study_law N (record { same = laws.same; form = laws.form; back = laws.back; wholes = laws.wholes }) m
-          (exact_lawful N.good N.value m (g.met.L.Line.lawful c.args.line.now)) g.Number.Kind.find g.met.Number.Kind.finds;
+          (exact_lawful N.good N.value m (g.met.L.Line.lawful c.args.line.now)) g.L.Number.Kind.find g.met.L.Number.Kind.finds;
     }

@@ -8,7 +8,7 @@ use Rattle.study_runs.proofs.running.run_commands.Goals as goal
 
 pub loop-command-init : goal.loop-command-init
 loop-command-init g c =
-    let N = g.Number.Number in
+    let N = g.L.Number.Number in
     let m = g.L.Line.meaning c.args.line.now in
     let e = c.requires.none in
     let len : vec_len c.args.answers.now ≡ 0 = c.args.answers.now.ok.0 ∙ ap length e in (
@@ -20,7 +20,7 @@ loop-command-init g c =
 
 pub loop-command-preserved : goal.loop-command-preserved
 loop-command-preserved g c =
-    let N = g.Number.Number in
+    let N = g.L.Number.Number in
     let m = g.L.Line.meaning c.args.line.now in
     let cs = c.args.commands.now in
     let k = c.loop-command.command-index in
@@ -46,7 +46,7 @@ loop-command-preserved g c =
 
 pub returns : goal.returns
 returns g c =
-    let N = g.Number.Number in
+    let N = g.L.Number.Number in
     let m = g.L.Line.meaning c.args.line.now in
     let i = c.loop-command.invariant in
     let past : length c.args.commands.now ≤ c.loop-command.command-index = omega arith in

@@ -8,13 +8,13 @@ use Rattle.trains.proofs.laying.lay.Goals as goal
 pub returns : goal.returns
 returns g c =
     let b = g.L.Line.meaning c.args.aims.below in
-    let v = g.row.Number-Number.value in
-    let f = g.Number.Kind.find in
+    let v = g.L.Number.Number.value in
+    let f = g.L.Number.Kind.find in
     let t = aim c.args.aims.aims in (
       c.over.ensures.line,
       c.over.ensures.book,
       fits_below v f t b c.args.book.sizes c.in_ok-fits.ensures,
-      shifts_and_adds g.row.Number-Number.good v f (held c.args.book) b t
-          (aims_shift g.row.Number-Number.good v f g.met.Number.Kind.finds t b (λ n k h. aim_states c.args.aims.aims n k h) (g.met.L.Line.lawful c.args.aims.below))
+      shifts_and_adds g.L.Number.Number.good v f (held c.args.book) b t
+          (aims_shift g.L.Number.Number.good v f g.met.L.Number.Kind.finds t b (λ n k h. aim_states c.args.aims.aims n k h) (g.met.L.Line.lawful c.args.aims.below))
           (c.over.ensures.cost c.in_ok-fits.ensures),
     )

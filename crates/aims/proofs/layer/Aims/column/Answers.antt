@@ -7,9 +7,9 @@ use Rattle.aims.proofs.layer.Aims.column.Goals as goal
 pub returns-in_err-sum : goal.returns-in_err-sum
 returns-in_err-sum g c =
     let b = g.L.Line.meaning c.args.self.now.below in
-    passed _ c.in_err-sum.field-0.0 c.from-residual.result
+    passed _ c.in_err-sum.field-0.0 c.from_residual.result
     (column_stays g.L.Number.Number.value g.L.Number.Kind.find (aim c.args.self.now.aims) b c.args.mark c.args.stop c.args.last (c.args.last - b.nx) c.args.row 0 (min b.nx 4) c.in_err-sum.field-0.0.mark (omega arith) c.in_err-sum.ensures)
-    c.from-residual.ensures.1
+    c.from_residual.ensures.1
 
 pub returns-in_err-sum-2 : goal.returns-in_err-sum-2
 returns-in_err-sum-2 g c =
@@ -20,10 +20,10 @@ returns-in_err-sum-2 g c =
     let e = c.in_err-sum-2.field-0.0.mark in
     let here : column_less_lem v f t b c.args.mark c.args.stop c.args.row (c.args.last - b.nx) c.loop-k.k c.loop-k.sum ≡ marked e =
     subst (λ (i : ℕ). column_less_lem v f t b c.args.mark c.args.stop c.args.row i c.loop-k.k c.loop-k.sum ≡ marked e) c.loop-k.invariant.1 c.in_err-sum-2.ensures in
-    passed _ c.in_err-sum-2.field-0.0 c.from-residual-in_err-sum-2.result
+    passed _ c.in_err-sum-2.field-0.0 c.from_residual-in_err-sum-2.result
     (column_stays v f t b c.args.mark c.args.stop c.args.last (c.args.last - b.nx) c.args.row (c.loop-k.k + 1) (min b.nx 4) e (omega arith)
     (column_more v f t b c.args.mark c.args.stop c.args.last (c.args.last - b.nx) c.args.row c.loop-k.k c.loop-k.sum (marked e) c.loop-k.invariant.2 here))
-    c.from-residual-in_err-sum-2.ensures.1
+    c.from_residual-in_err-sum-2.ensures.1
 
 pub loop-k-preserved : goal.loop-k-preserved
 loop-k-preserved g c =

@@ -18,12 +18,12 @@ join-requires c = record { good = (c.requires.good, c.in-ok-train.ensures.good);
 
 pub returns-in-err-train : goal.returns-in-err-train
 returns-in-err-train c =
-    let p = err_from_is_err_and c.from-residual.result c.from-residual.ensures.1 in
+    let p = err_from_is_err_and c.from_residual.result c.from_residual.ensures.1 in
     rw (p.1, p.2) (c.loop-place.place, c.loop-place.invariant, inl (record { more = c.loop-place-test.true; bad = c.in-err-train.ensures }))
 
 pub returns-in-err-join : goal.returns-in-err-join
 returns-in-err-join c =
-    let p = err_from_is_err_and c.from-residual-in-err-join.result c.from-residual-in-err-join.ensures.1 in
+    let p = err_from_is_err_and c.from_residual-in-err-join.result c.from_residual-in-err-join.ensures.1 in
     let told = c.in-err-join.ensures in
     let same : held c.loop-place.self ≡ held c.join.new.self = sym told.0 in
     rw (p.1, p.2) (

@@ -9,7 +9,7 @@ use Rattle.feeds.proofs.book.Book.take_in.Goals as goal
 
 pub returns-in-err-sizes : goal.returns-in-err-sizes
 returns-in-err-sizes c =
-    let p = err_from_is_err_and c.from-residual.result c.from-residual.ensures.1 in
+    let p = err_from_is_err_and c.from_residual.result c.from_residual.ensures.1 in
     rw (p.1, p.2) (c.in-err-sizes.ensures (vec_items c.args.self.now.trains), refl)
 
 pub overflow-sub-result : goal.overflow-sub-result

@@ -10,5 +10,5 @@ returns g c = record {
   line = refl;
   book = refl;
   sums = sums_fit c.args.book;
-  cost = λ fits. trains_add g.row.Number-Number.good g.row.Number-Number.value g.Number.Kind.find g.met.Number.Kind.finds (held c.args.book) (g.L.Line.meaning c.args.below) fits (bare c.args.book);
+  cost = λ fits. trains_add g.L.Number.Number.good g.L.Number.Number.value g.L.Number.Kind.find g.met.L.Number.Kind.finds (held c.args.book) (g.L.Line.meaning c.args.below) fits (bare c.args.book);
 }
