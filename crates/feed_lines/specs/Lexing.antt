@@ -1,6 +1,6 @@
 -- Tokens of a feed. Assumes nothing.
 --
---   key_of t, value_of t    the key of a token, and the bytes of its value
+--   key_of t, value_of t   the key of a token, and the bytes of its value
 use Rattle.std.specs.Prelude.{ℕ, List}
 use Rattle.feed_types.specs.declared.keys.Key.{Key}
 use Rattle.feed_types.specs.declared.keys.Key.TheVariants as key

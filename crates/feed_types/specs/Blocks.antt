@@ -6,7 +6,7 @@
 --   ReadBlock bs p s t q     the block of bs at the place p is that of the train t, which keeps to the limits of s; q is the place after it
 --   NextLine s t i v         some train within the limits of s has the first i lines of t's block, and then a line of value v
 --   BadBlock s rest n e      e refuses the block that begins rest, whose first line is line n: lines of it are those of some train's block,
---                             and the next one is none of its key, or none that may follow them
+--                            and the next one is none of its key, or none that may follow them
 use Rattle.std.specs.Prelude.{◌≡◌, ℕ, ◌+◌, ◌<◌, ◌≤◌, ◌≢◌, List, [], ◌++◌, get_or, take, drop, Some, decimal, Option, slice_index_or}
 use Rattle.feed_types.specs.declared.faults.FeedFault.{FeedFault}
 use Rattle.feed_types.specs.declared.faults.FeedFault.TheVariants.{TooLong, NoLine, BadValue, OtherSize, OtherValues, BookFull}

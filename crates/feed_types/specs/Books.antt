@@ -1,10 +1,10 @@
 -- What a book of trains keeps. Assumes nothing.
 --
---   at ts k             the train at slot k of ts, slots counting from 0
---   SameTrain t u      t and u are one train: stop and label tell it
---   Distinct ts         no train stands in ts twice
---   Keeps s ts          the trains of ts are within the limits of the sizes s, where there are sizes
---   sizes_for o ts      the sizes o, if there is a train: a book without trains has no sizes
+--   at ts k          the train at slot k of ts, slots counting from 0
+--   SameTrain t u    t and u are one train: stop and label tell it
+--   Distinct ts      no train stands in ts twice
+--   Keeps s ts       the trains of ts are within the limits of the sizes s, where there are sizes
+--   sizes_for o ts   the sizes o, if there is a train: a book without trains has no sizes
 use Rattle.std.specs.Prelude.{◌≡◌, ℕ, ◌<◌, List, [], ◌∷◌, length, pos, Some, None, Option, slice_index_or}
 use Rattle.std.specs.List.{AllByRecursion as All}
 use Rattle.feed_types.specs.declared.types.Sizes.{Sizes}

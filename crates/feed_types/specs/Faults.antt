@@ -1,7 +1,7 @@
 -- The refusals of feeds, each with its number and its values. Assumes nothing.
 --
---   number e            the number of the refusal e
---   line_of e           the line that e names, counted from 1, if it names one
+--   number e    the number of the refusal e
+--   line_of e   the line that e names, counted from 1, if it names one
 use Rattle.std.specs.Prelude.{ℕ, Some, None, Option}
 use Rattle.feed_types.specs.declared.faults.FeedFault.{FeedFault}
 use Rattle.feed_types.specs.declared.faults.FeedFault.TheVariants.{TooLong, NoLine, BadValue, OtherSize, OtherValues, BookFull}

@@ -1,9 +1,9 @@
 -- One line of a feed, read as a value or refused. Assumes nothing.
 --
---   Counts least most bs    bs writes a number from least to most
---   Lists n room P bs       bs writes n factors, parted by commas, such that P holds of them
+--   Counts least most bs   bs writes a number from least to most
+--   Lists n room P bs      bs writes n factors, parted by commas, such that P holds of them
 --   AllZero zs             every factor is 0
---   Integers most bs        bs writes a whole number between -most and most
+--   Integers most bs       bs writes a whole number between -most and most
 --   BadLine k A rest n e   e refuses the line n that begins rest: it is no line of the key k, or A does not allow its value
 use Rattle.std.specs.Prelude.{◌≡◌, ℕ, ◌≤◌, List, ◌++◌, take, ℤ, pos, decimal}
 use Rattle.std.specs.Str.Iter.{LacksByte}

@@ -1,9 +1,9 @@
 -- The laws of joining, over every list of feeds that a book has taken in. Assumes nothing.
 --
---   OneText            two good feeds with one text are the same feed
---   OnlyAnswer ..      reading a feed into a book has this answer, and leaves this book, and no other
---   KeepsSlots b c     every train of the book b stands at the same slot of c, with the same values
---   AgainNothing bs c  reading bs into c again finds no new train, and leaves c
+--   OneText             two good feeds with one text are the same feed
+--   OnlyAnswer ..       reading a feed into a book has this answer, and leaves this book, and no other
+--   KeepsSlots b c      every train of the book b stands at the same slot of c, with the same values
+--   AgainNothing bs c   reading bs into c again finds no new train, and leaves c
 --   History fs b        the feeds fs, in turn, were granted by a new book, others may have been refused between them, and the book is now b
 --   Told fs b           each train stands in b once; the trains of the feeds fs stand in b with their values, and nothing else does
 use Rattle.std.specs.Prelude.{◌≡◌, ℕ, ◌<◌, ◌≤◌, List, [], ◌∷◌, ◌++◌, length, None, Ok, Result}

@@ -5,8 +5,8 @@
 --   Joins b t c         joining the train t to the book b leaves the book c: a train that stands with the same
 --                       values is counted once, a new one takes the next slot, of 64 at most
 --   Joined b ts c       joining the trains ts in turn to the book b leaves the book c
---   NotJoined b t n e  e is why t, whose block ends with line n, cannot be joined to the book b
---   StandsNamed ..     a train of this stop, and of a label that these bytes spell, stands at slot k
+--   NotJoined b t n e   e is why t, whose block ends with line n, cannot be joined to the book b
+--   StandsNamed ..      a train of this stop, and of a label that these bytes spell, stands at slot k
 use Rattle.std.specs.Prelude.{◌≡◌, ℕ, ◌<◌, ◌≢◌, List, [], ◌∷◌, ◌++◌, length}
 use Rattle.feed_types.specs.declared.faults.FeedFault.{FeedFault}
 use Rattle.feed_types.specs.declared.faults.FeedFault.TheVariants.{TooLong, NoLine, BadValue, OtherSize, OtherValues, BookFull}

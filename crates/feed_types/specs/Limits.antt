@@ -1,13 +1,13 @@
 -- What a feed may hold: the limits of its sizes and of its trains. Assumes nothing.
 --
---   GoodSizes s        the last stop is 1 to 24, there are 1 to 4 states and 1 to 3 inputs
+--   GoodSizes s         the last stop is 1 to 24, there are 1 to 4 states and 1 to 3 inputs
 --   letter b            the byte b may stand in a label: a capital letter or a digit
 --   name l              the bytes of the label l, without its padding
---   LabelText bs       bs may be a label: 1 to 8 bytes that may stand in one
---   GoodLabel l        l is a label text and then zeros, eight bytes in all
+--   LabelText bs        bs may be a label: 1 to 8 bytes that may stand in one
+--   GoodLabel l         l is a label text and then zeros, eight bytes in all
 --   Within n z          the whole number z is between -n and n
 --   Factors n room zs   zs has `room` numbers within 99, and those past the first n are 0
---   GoodTrain s t      t keeps to every limit of a feed of sizes s
+--   GoodTrain s t       t keeps to every limit of a feed of sizes s
 use Rattle.std.specs.Prelude.{◌≡◌, ℕ, zero, suc, ◌-◌, ◌≤◌, Bool, true, ◌&&◌, ◌||◌, List, [], ◌∷◌, ◌++◌, length, take, replicate, ℤ, pos, nat_le, unsigned_abs}
 use Rattle.std.specs.List.{AllByRecursion as All}
 use Rattle.feed_types.specs.declared.types.Sizes.{Sizes}

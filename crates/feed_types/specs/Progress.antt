@@ -1,7 +1,7 @@
 -- A feed of which some blocks are joined. Assumes nothing.
 --
---   JoinedTo bs s p b c q    the trains of the blocks of bs from the place p up to q turn the book b into c, in a feed of sizes s
---   Stuck bs s c q e          e refuses the block at q: it cannot be read, or its train cannot be joined to the book c
+--   JoinedTo bs s p b c q   the trains of the blocks of bs from the place p up to q turn the book b into c, in a feed of sizes s
+--   Stuck bs s c q e        e refuses the block at q: it cannot be read, or its train cannot be joined to the book c
 use Rattle.std.specs.Prelude.{◌≡◌, ℕ, ◌+◌, ◌*◌, ◌<◌, ◌⊎◌, List, ◌++◌, length, drop}
 use Rattle.std.specs.List.{flat_map, AllByRecursion as All}
 use Rattle.feed_types.specs.declared.faults.FeedFault.{FeedFault}

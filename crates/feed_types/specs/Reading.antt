@@ -1,14 +1,14 @@
 -- What reading a feed into a book answers. Assumes nothing.
 --
---   Register            what a book holds: sizes, if it has any, and trains by slot
---   key_at k            the key of line k, counting lines from 0
---   MayEnd k           a feed may end before line k: after its header, or after a whole block
---   size_at_lem k s         the size that line k of a header gives
---   Agrees b k s        size k of s is the book's, where the book has sizes; Agreed b s: all three are
---   Starts bs k f rest  the first k lines of bs are those of the good feed f, and rest follows them
---   Before b k f        nothing refuses the first k lines of f: their sizes agree with the book, and the trains of their blocks join it
---   Refused bs b e      e is why the feed bs is refused by the book b
---   Reading bs b r c    reading the feed bs into the book b answers r, and leaves the book c
+--   Register             what a book holds: sizes, if it has any, and trains by slot
+--   key_at k             the key of line k, counting lines from 0
+--   MayEnd k             a feed may end before line k: after its header, or after a whole block
+--   size_at_lem k s      the size that line k of a header gives
+--   Agrees b k s         size k of s is the book's, where the book has sizes; Agreed b s: all three are
+--   Starts bs k f rest   the first k lines of bs are those of the good feed f, and rest follows them
+--   Before b k f         nothing refuses the first k lines of f: their sizes agree with the book, and the trains of their blocks join it
+--   Refused bs b e       e is why the feed bs is refused by the book b
+--   Reading bs b r c     reading the feed bs into the book b answers r, and leaves the book c
 use Rattle.std.specs.Prelude.{◌≡◌, ℕ, zero, suc, ◌+◌, ◌-◌, ◌*◌, ◌/◌, ◌%◌, ◌<◌, ◌≤◌, cond, ◌≢◌, List, [], ◌∷◌, ◌++◌, length, take, Some, Ok, Err, Option, Result, nat_lt, slice_index_or}
 use Rattle.std.specs.Str.Iter.{LacksByte}
 use Rattle.feed_types.specs.declared.faults.FeedFault.{FeedFault}

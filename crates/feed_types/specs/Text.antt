@@ -6,9 +6,9 @@
 --   commas zs           whole numbers parted by commas (byte 44)
 --   line key value      the bytes key=value and the line's end, byte 10
 --   header s, block s t the three lines of the sizes s, the six lines of the train t
---   lines f             all lines of f: the header's, and each train's block in turn
---   text f              these lines in a row
---   ends bs             how many bytes of bs end a line
+--   lines f   all lines of f: the header's, and each train's block in turn
+--   text f    these lines in a row
+--   ends bs   how many bytes of bs end a line
 use Rattle.std.specs.Prelude.{ℕ, ◌+◌, cond, List, [], ◌∷◌, ◌++◌, map, take, ℤ, codes, decimal, ◌==◌}
 use Rattle.std.specs.List.{flat_map, join_with_byte, AllByRecursion as All}
 use Rattle.std.specs.Fmt.{signed_decimal}

@@ -1,10 +1,10 @@
 -- Keys and lines of a feed. Assumes nothing.
 --
---   spelt k                 the bytes of the key k
+--   spelt k                the bytes of the key k
 --   IsKey bs               bs spells a key of a feed
---   Found bs from byte i    i is the first index of the byte in bs from `from` on, or the length of bs where there is none
+--   Found bs from byte i   i is the first index of the byte in bs from `from` on, or the length of bs where there is none
 --   InFeed bs p            the place p lies in bs
---   HasNoLine key rest        rest does not begin with a line of this key
+--   HasNoLine key rest     rest does not begin with a line of this key
 --   LineAt bs p k v q      the line of bs at the place p has the key k and the value v, and q is the next line's place
 use Rattle.std.specs.Prelude.{◌≡◌, ℕ, ◌+◌, ◌<◌, ◌≤◌, List, ◌++◌, length, drop, codes, ◌≢◌, slice_index}
 use Rattle.std.specs.Str.Iter.{LacksByte}

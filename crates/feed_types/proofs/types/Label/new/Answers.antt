@@ -7,9 +7,9 @@ use Rattle.feed_types.specs.Limits.{letter, unpadded, LabelText}
 use Rattle.feed_types.proofs.Padding.{fill, unpadded_padded}
 use Rattle.feed_types.proofs.types.Label.new.Goals as goal
 
-pub returns-then-not-is-letter : goal.returns-then-not-is-letter
-returns-then-not-is-letter c h =
-    true≢false (sym (All-get_or (λ b. letter b ≡ true) c.args.text.now c.loop-i.i 0 c.loop-i-test.true h.letters) ∙ sym c.if-not-is-letter.ensures)
+pub returns-then-not-is_letter : goal.returns-then-not-is_letter
+returns-then-not-is_letter c h =
+    true≢false (sym (All-get_or (λ b. letter b ≡ true) c.args.text.now c.loop-i.i 0 c.loop-i-test.true h.letters) ∙ sym c.if-not-is_letter.ensures)
 
 pub loop-i-preserved : goal.loop-i-preserved
 loop-i-preserved c =
