@@ -4,7 +4,6 @@ use Rattle.std.specs.Str.Iter.{LacksByte}
 use Rattle.std.proofs.ByRecursion.{All-get_or}
 use Rattle.std.proofs.lemmas.List.{length-append, length-drop, take_more, drop-take, get_or-drop, same_from_push}
 use Rattle.std.proofs.lemmas.Bool.{cases_lt, cases_order}
-use Rattle.feed_types.specs.declared.keys.Key.TheVariants as key
 use Rattle.feed_types.specs.declared.types.Train.{Train}
 use Rattle.feed_types.specs.Books.{at, no_train, Distinct}
 use Rattle.feed_types.specs.Joining.{Stands, Absent, Joins, again, new, Joined, none, more}
