@@ -1,6 +1,6 @@
 -- Reading a feed into a book has one answer. Assumes nothing.
 use Rattle.std.proofs.Common.{◌≡◌, ℕ, zero, suc, ◌+◌, ◌-◌, ◌*◌, ◌/◌, ◌<◌, ◌≤◌, List, [], ◌∷◌, ◌++◌, length, take, drop, sym, refl, ap, ◌∙◌, subst, inl, inr, arith}
-use Rattle.std.specs.List.{flat_map, AllByRecursion as All}
+use Rattle.std.specs.List.{flat_map, AllByRecursion}
 use Rattle.std.proofs.lemmas.List.{take_all, take-take, drop-take}
 use Rattle.std.proofs.lemmas.Bool.{cases_order}
 use Rattle.feed_types.specs.declared.types.Sizes.{Sizes}
@@ -35,7 +35,7 @@ whole_trains k f g gf gg h kf kg e = go (same_sizes k f g gf gg e h)
     go : f.sizes ≡ g.sizes → take j f.trains ≡ take j g.trains
     go s =
         same_trains g.sizes gg.sizes j f.trains g.trains (omega (arith, lines_long f)) (omega (arith, lines_long g))
-        (subst (λ (u : Sizes). All (GoodTrain u) f.trains) s gf.trains) gg.trains
+        (subst (λ (u : Sizes). AllByRecursion (GoodTrain u) f.trains) s gf.trains) gg.trains
         (ap (λ (u : Sizes). take (6 * j) (flat_map (block u) f.trains)) (sym s) ∙ drop_three f (6 * j) ∙ ap (drop 3) shorter ∙ sym (drop_three g (6 * j)))
 
 pub one_text_lem : OneText

@@ -1,7 +1,7 @@
 -- A block read line by line. Assumes nothing.
 use Rattle.std.proofs.Common.{◌≡◌, ℕ, zero, suc, ◌+◌, ◌-◌, ◌<◌, ◌≤◌, true, false, eqb, List, [], ◌∷◌, ◌++◌, length, get_or, take, drop, replicate, ℤ, pos, decimal, sym, refl, ap, ◌∙◌, subst, append_assoc, append-nil, add-zero, arith, lit≤}
 use Rattle.std.specs.Fmt.{signed_decimal}
-use Rattle.std.specs.List.{AllByRecursion as All}
+use Rattle.std.specs.List.{AllByRecursion}
 use Rattle.std.proofs.lemmas.Fmt.{decimal_injective}
 use Rattle.std.proofs.lemmas.List.{append_cancel_left, append_cancel_right, take_more, take-replicate, replicate-append-replicate, length-replicate}
 use Rattle.std.proofs.lemmas.Bool.{eqb-true, false≢true}
@@ -114,7 +114,7 @@ zeros n room h = record {
   padded = ap (λ (m : ℕ). replicate m (pos 0)) (omega arith) ∙ sym (replicate-append-replicate n (room - n) (pos 0)) ∙ ap (λ (l : List ℤ). l ++ replicate (room - n) (pos 0)) (sym (take-replicate n room (pos 0) h));
 }
   where
-    none : (m : ℕ) → All (Within 99) (replicate m (pos 0))
+    none : (m : ℕ) → AllByRecursion (Within 99) (replicate m (pos 0))
     none zero = tt
     none (suc m) = (omega arith, none m)
 

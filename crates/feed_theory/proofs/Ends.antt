@@ -1,7 +1,7 @@
 -- How many lines a text has. Assumes nothing.
 use Rattle.std.proofs.Common.{◌≡◌, ℕ, suc, ◌+◌, ◌*◌, ◌<◌, Bool, cond, eqb, List, [], ◌∷◌, ◌++◌, length, get_or, drop, refl, ap, ◌∙◌, arith}
 use Rattle.std.specs.Str.Iter.{LacksByte}
-use Rattle.std.specs.List.{AllByRecursion as All}
+use Rattle.std.specs.List.{AllByRecursion}
 use Rattle.std.proofs.lemmas.List.{at_drop_more}
 use Rattle.std.proofs.lemmas.Bool.{ne_eqb}
 use Rattle.feed_types.specs.Text.{Feed, Good, ends, lines, run_on, text}
@@ -19,7 +19,7 @@ ends_none (b ∷ w) h = ap (λ (t : Bool). cond t 1 0 + ends w) (ne_eqb b 10 (h 
 ends_line : (l : List ℕ) → Ended l → ends l ≡ 1
 ends_line l e = ap ends e.is ∙ ends_append e.front (10 ∷ []) ∙ (let none' = ends_none e.front e.plain in omega arith)
 
-ends_run_on : (ls : List (List ℕ)) → All Ended ls → ends (run_on ls) ≡ length ls
+ends_run_on : (ls : List (List ℕ)) → AllByRecursion Ended ls → ends (run_on ls) ≡ length ls
 ends_run_on [] h = refl
 ends_run_on (l ∷ ls) h =
     let one = ends_line l h.0 in

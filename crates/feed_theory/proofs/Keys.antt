@@ -1,7 +1,7 @@
 -- Keys are lower-case letters, and each is spelt in its own way. Assumes nothing.
 use Rattle.std.proofs.Common.{◌≡◌, ℕ, ◌+◌, ◌<◌, ◌≤◌, Bool, true, cond, ◌&&◌, eqb, leb, List, [], ◌∷◌, IsUtf8, sym, refl, ap, ◌∙◌, arith}
 use Rattle.std.specs.Str.Iter.{LacksByte}
-use Rattle.std.specs.List.{AllByRecursion as All}
+use Rattle.std.specs.List.{AllByRecursion}
 use Rattle.std.proofs.ByRecursion.{IsAscii-from_all, All-get_or, All-weaker}
 use Rattle.std.proofs.lemmas.Bool.{and_parts, leb-true}
 use Rattle.std.proofs.lemmas.Str.{IsUtf8-from_ascii}
@@ -16,7 +16,7 @@ lowers (b ∷ bs) = (leb 97 b && leb b 122) && lowers bs
 abbrev Lower : ℕ → Type 0
 Lower b = (97 ≤ b) × (b ≤ 122)
 
-all_lower : (bs : List ℕ) → lowers bs ≡ true → All Lower bs
+all_lower : (bs : List ℕ) → lowers bs ≡ true → AllByRecursion Lower bs
 all_lower [] h = tt
 all_lower (b ∷ bs) h =
     let p = and_parts (leb 97 b && leb b 122) (lowers bs) h in
@@ -34,7 +34,7 @@ spelt_lowers key.Late = refl
 spelt_lowers key.Move = refl
 spelt_lowers key.Aim = refl
 
-spelt_lower : (k : Key) → All Lower (spelt k)
+spelt_lower : (k : Key) → AllByRecursion Lower (spelt k)
 spelt_lower k = all_lower (spelt k) (spelt_lowers k)
 
 pub spelt_lacks : (k : Key) (c : ℕ) → c < 97 → LacksByte c (spelt k)

@@ -1,7 +1,7 @@
 -- A text has its lines in one way, and lines have their sizes and trains in one way. Assumes nothing.
 use Rattle.std.proofs.Common.{◌≡◌, ℕ, zero, suc, ◌-◌, ◌*◌, ◌^◌, ◌<◌, ◌≤◌, true, List, [], ◌∷◌, ◌++◌, length, get_or, take, drop, replicate, ℤ, pos, negsuc, decimal, sym, refl, ap, ◌∙◌, subst, append_assoc, append-nil, arith}
 use lib.Signed.{mag}
-use Rattle.std.specs.List.{flat_map, AllByRecursion as All}
+use Rattle.std.specs.List.{flat_map, AllByRecursion}
 use Rattle.std.specs.Str.Iter.{LacksByte}
 use Rattle.std.specs.Fmt.{signed_decimal}
 use Rattle.std.proofs.lemmas.Fmt.{decimal_injective, signed_decimal_injective}
@@ -41,7 +41,7 @@ pub first_end : (l : List ℕ) (ls : List (List ℕ)) (r : List ℕ) (h : Ended 
 first_end l ls r h = ap (λ (w : List ℕ). (w ++ run_on ls) ++ r) h.is ∙ simp append_assoc
 
 -- lines are told by what they run on to
-pub same_lines : (ls ms : List (List ℕ)) (r q : List ℕ) → All Ended ls → All Ended ms → length ls ≡ length ms → run_on ls ++ r ≡ run_on ms ++ q → (ls ≡ ms) × (r ≡ q)
+pub same_lines : (ls ms : List (List ℕ)) (r q : List ℕ) → AllByRecursion Ended ls → AllByRecursion Ended ms → length ls ≡ length ms → run_on ls ++ r ≡ run_on ms ++ q → (ls ≡ ms) × (r ≡ q)
 same_lines [] [] r q al am n e = (refl, e)
 same_lines [] (m ∷ ms) r q al am n e = absurd (omega arith)
 same_lines (l ∷ ls) [] r q al am n e = absurd (omega arith)
@@ -55,7 +55,7 @@ some_bytes : (l : List ℕ) (ls : List (List ℕ)) → Ended l → 0 < length (r
 some_bytes l ls h = omega (arith, length-append l (run_on ls), ap length h.is, length-append h.front (10 ∷ []))
 
 -- and so is how many there are
-pub same_count : (ls ms : List (List ℕ)) → All Ended ls → All Ended ms → run_on ls ≡ run_on ms → length ls ≡ length ms
+pub same_count : (ls ms : List (List ℕ)) → AllByRecursion Ended ls → AllByRecursion Ended ms → run_on ls ≡ run_on ms → length ls ≡ length ms
 same_count [] [] al am e = refl
 same_count [] (m ∷ ms) al am e = absurd (omega (arith, some_bytes m ms am.0, ap length e))
 same_count (l ∷ ls) [] al am e = absurd (omega (arith, some_bytes l ls al.0, ap length e))
@@ -64,13 +64,13 @@ same_count (l ∷ ls) (m ∷ ms) al am e =
     ap suc (same_count ls ms al.1 am.1 (sym (append-nil (run_on ls)) ∙ cut.1 ∙ append-nil (run_on ms)))
 
 -- no value has a byte 10
-name_lacks : (bs : List ℕ) → All (λ b. letter b ≡ true) bs → LacksByte 10 bs
+name_lacks : (bs : List ℕ) → AllByRecursion (λ b. letter b ≡ true) bs → LacksByte 10 bs
 name_lacks bs h k within e = not_letter (sym (All-get_or (λ b. letter b ≡ true) bs k 0 within h) ∙ ap letter e)
   where
     not_letter : true ≡ letter 10 → ⊥
     not_letter p = false≢true (sym p)
 
-commas_lacks : (zs : List ℤ) → All (Within 99) zs → LacksByte 10 (commas zs)
+commas_lacks : (zs : List ℤ) → AllByRecursion (Within 99) zs → LacksByte 10 (commas zs)
 commas_lacks [] h k within e = omega arith
 commas_lacks (z ∷ []) h k within e = signed_lacks z 10 (omega (arith, h.0)) (λ e. omega arith) (λ d. omega (arith, d.0)) k within e
 commas_lacks (z ∷ y ∷ zs) h k within e =
@@ -80,7 +80,7 @@ commas_lacks (z ∷ y ∷ zs) h k within e =
 pub count_lacks : (n : ℕ) → n ≤ 999 → LacksByte 10 (decimal n)
 count_lacks n h = decimal_lacks n 10 (omega arith) (λ d. omega (arith, d.0))
 
-ended_header : (s : Sizes) → GoodSizes s → All Ended (header s)
+ended_header : (s : Sizes) → GoodSizes s → AllByRecursion Ended (header s)
 unfolding header
 ended_header s g = (
   ended_line key.Stops _ (count_lacks s.stops (omega (arith, g.stops.1))),
@@ -90,7 +90,7 @@ ended_header s g = (
   ),
 )
 
-pub ended_block : (s : Sizes) (t : Train) → GoodSizes s → GoodTrain s t → All Ended (block s t)
+pub ended_block : (s : Sizes) (t : Train) → GoodSizes s → GoodTrain s t → AllByRecursion Ended (block s t)
 unfolding block
 ended_block s t g h = (
   ended_line key.Train _ (name_lacks (name t.label) h.label.text.letters),
@@ -120,11 +120,11 @@ keyed_block s t (suc (suc (suc (suc zero)))) g h l = (_, commas_lacks (take s.in
 keyed_block s t (suc (suc (suc (suc (suc zero))))) g h l = (_, signed_lacks t.aim 10 h.aim (λ e. omega arith) (λ d. omega (arith, d.0)), refl)
 keyed_block s t (suc (suc (suc (suc (suc (suc i)))))) g h l = absurd (omega arith)
 
-pub ended_lines : (f : Feed) → Good f → All Ended (lines f)
+pub ended_lines : (f : Feed) → Good f → AllByRecursion Ended (lines f)
 unfolding lines
 ended_lines f g = All-append Ended (header f.sizes) (flat_map (block f.sizes) f.trains) (ended_header f.sizes g.sizes) (blocks f.trains g.trains)
   where
-    blocks : (ts : List Train) → All (GoodTrain f.sizes) ts → All Ended (flat_map (block f.sizes) ts)
+    blocks : (ts : List Train) → AllByRecursion (GoodTrain f.sizes) ts → AllByRecursion Ended (flat_map (block f.sizes) ts)
     blocks [] h = tt
     blocks (t ∷ ts) h = All-append Ended (block f.sizes t) (flat_map (block f.sizes) ts) (ended_block f.sizes t g.sizes h.0) (blocks ts h.1)
 
@@ -182,7 +182,7 @@ module _ (s : Sizes) (g : GoodSizes s) where
       let e' = subst (λ (n : ℕ). take n (block s t ++ xs) ≡ take n (block s u ++ ys)) six e in
       (ap (take 6) e', ap (drop 6) e')
 
-  pub same_trains : (j : ℕ) (ts us : List Train) → j ≤ length ts → j ≤ length us → All (GoodTrain s) ts → All (GoodTrain s) us → take (6 * j) (flat_map (block s) ts) ≡ take (6 * j) (flat_map (block s) us) → take j ts ≡ take j us
+  pub same_trains : (j : ℕ) (ts us : List Train) → j ≤ length ts → j ≤ length us → AllByRecursion (GoodTrain s) ts → AllByRecursion (GoodTrain s) us → take (6 * j) (flat_map (block s) ts) ≡ take (6 * j) (flat_map (block s) us) → take j ts ≡ take j us
   same_trains zero ts us hj hk at au e = refl
   same_trains (suc j) [] us hj hk at au e = absurd (omega arith)
   same_trains (suc j) (t ∷ ts) [] hj hk at au e = absurd (omega arith)

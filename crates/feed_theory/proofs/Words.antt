@@ -1,7 +1,7 @@
 -- A value parted at its commas, and the numbers that its parts write. Assumes nothing.
 use Rattle.std.proofs.Common.{◌≡◌, ℕ, zero, suc, ◌+◌, ◌-◌, ◌^◌, ◌<◌, ◌≤◌, Bool, true, false, cond, eqb, ◌⊎◌, List, [], ◌∷◌, ◌++◌, map, length, get_or, take, drop, set, replicate, ℤ, pos, negsuc, sym, refl, ap, ◌∙◌, subst, inl, inr, append_assoc, append-nil, arith}
 use lib.Signed.{mag}
-use Rattle.std.specs.List.{between, join_with_byte, AllByRecursion as All}
+use Rattle.std.specs.List.{between, join_with_byte, AllByRecursion}
 use Rattle.std.specs.Str.Iter.{LacksByte}
 use Rattle.std.specs.Fmt.{signed_decimal}
 use Rattle.std.proofs.lemmas.Fmt.{signed_decimal_injective}
@@ -66,7 +66,7 @@ rejoined_words (b ∷ bs) = go (cases_Bool (eqb b 44)) (words_some bs) (rejoined
     go (inl t) (w, ws, e) ih = ap (λ (x : Bool). join_with_byte 44 (cond x ([] ∷ words bs) (onto b (words bs)))) t ∙ cut (words bs) w ws e ∙ (λ i. sym (eqb-true b 44 t) i ∷ ih i)
     go (inr f) (w, ws, e) ih = ap (λ (x : Bool). join_with_byte 44 (cond x ([] ∷ words bs) (onto b (words bs)))) f ∙ front (words bs) w ws e ∙ ap (λ (l : List ℕ). b ∷ l) ih
 
-pub words_commas : (zs : List ℤ) → 0 < length zs → All (Within 99) zs → words (commas zs) ≡ map signed_decimal zs
+pub words_commas : (zs : List ℤ) → 0 < length zs → AllByRecursion (Within 99) zs → words (commas zs) ≡ map signed_decimal zs
 words_commas [] h a = absurd (omega arith)
 words_commas (z ∷ []) h a = words_last (signed_decimal z) (signed_lacks z 44 (omega (arith, a.0)) (λ e. omega arith) (λ d. omega (arith, d.0)))
 words_commas (z ∷ y ∷ zs) h a =
@@ -77,7 +77,7 @@ words_commas (z ∷ y ∷ zs) h a =
 pub record Sofar (text : List ℕ) (count room k at : ℕ) (zs : List ℤ) : Type 0 where
   pub long : length zs ≡ room
   pub padded : zs ≡ take k zs ++ replicate (room - k) (pos 0)
-  pub small : All (Within 99) (take k zs)
+  pub small : AllByRecursion (Within 99) (take k zs)
   pub inside : k < count → at ≤ length text
   pub more : k < count → words text ≡ map signed_decimal (take k zs) ++ words (drop at text)
   pub done : k ≡ count → words text ≡ map signed_decimal (take k zs)
@@ -122,7 +122,7 @@ module _ (text : List ℕ) (count room k at end : ℕ) (out : List ℤ) (s : Sof
   unfolding front
   whole = s.more below ∙ ap (λ (l : List (List ℕ)). map signed_decimal (take k out) ++ l) parts.1
 
-  module _ (zs : List ℤ) (many : length zs ≡ count) (small : All (Within 99) zs) (e : text ≡ commas zs) where
+  module _ (zs : List ℤ) (many : length zs ≡ count) (small : AllByRecursion (Within 99) zs) (e : text ≡ commas zs) where
     both : front ++ (between at end text ∷ parts.0) ≡ map signed_decimal zs
     both = sym whole ∙ ap words e ∙ words_commas zs (omega arith) small
 
@@ -147,7 +147,7 @@ module _ (text : List ℕ) (count room k at end : ℕ) (out : List ℤ) (s : Sof
   sofar_more z w e way = record {
     long = length-set out k z ∙ s.long;
     padded = filled ∙ ap (λ (l : List ℤ). l ++ replicate (room - (k + 1)) (pos 0)) (sym pushed);
-    small = subst (All (Within 99)) (sym pushed) (All-push (Within 99) (take k out) z s.small w);
+    small = subst (AllByRecursion (Within 99)) (sym pushed) (All-push (Within 99) (take k out) z s.small w);
     inside = λ lt. inner lt way;
     more = λ lt. spread ∙ ap (λ (l : List (List ℕ)). map signed_decimal (take (k + 1) (set out k z)) ++ l) (parts.2 (middle lt way));
     done = λ eq. spread ∙ ap (λ (l : List (List ℕ)). map signed_decimal (take (k + 1) (set out k z)) ++ l) (parts.3 (last eq way)) ∙ append-nil (map signed_decimal (take (k + 1) (set out k z)));
@@ -178,25 +178,25 @@ pub sofar_all : (text : List ℕ) (count room at : ℕ) (zs : List ℤ) → coun
 sofar_all text count room at zs fits s = (
   record {
     long = s.long;
-    small = subst (All (Within 99)) (sym s.padded) (All-append (Within 99) (take count zs) (replicate (room - count) (pos 0)) s.small (zeros (room - count)));
+    small = subst (AllByRecursion (Within 99)) (sym s.padded) (All-append (Within 99) (take count zs) (replicate (room - count) (pos 0)) s.small (zeros (room - count)));
     padded = s.padded;
   },
   sym (rejoined_words text) ∙ ap (join_with_byte 44) (s.done refl),
 )
   where
-    zeros : (n : ℕ) → All (Within 99) (replicate n (pos 0))
+    zeros : (n : ℕ) → AllByRecursion (Within 99) (replicate n (pos 0))
     zeros zero = tt
     zeros (suc n) = (omega arith, zeros n)
 
 -- factors are told by their text
-pub same_from_commas : (xs ys : List ℤ) → 0 < length xs → 0 < length ys → All (Within 99) xs → All (Within 99) ys → commas xs ≡ commas ys → xs ≡ ys
+pub same_from_commas : (xs ys : List ℤ) → 0 < length xs → 0 < length ys → AllByRecursion (Within 99) xs → AllByRecursion (Within 99) ys → commas xs ≡ commas ys → xs ≡ ys
 same_from_commas xs ys hx hy ax ay e = same xs ys ax ay (sym (words_commas xs hx ax) ∙ ap words e ∙ words_commas ys hy ay)
   where
     mag_small : (z : ℤ) → Within 99 z → mag z < 2 ^ 63
     mag_small (pos n) h = omega arith
     mag_small (negsuc n) h = omega arith
 
-    same : (us vs : List ℤ) → All (Within 99) us → All (Within 99) vs → map signed_decimal us ≡ map signed_decimal vs → us ≡ vs
+    same : (us vs : List ℤ) → AllByRecursion (Within 99) us → AllByRecursion (Within 99) vs → map signed_decimal us ≡ map signed_decimal vs → us ≡ vs
     same [] [] au av p = refl
     same [] (v ∷ vs) au av p = absurd (omega (arith, ap length p))
     same (u ∷ us) [] au av p = absurd (omega (arith, ap length p))

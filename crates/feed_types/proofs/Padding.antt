@@ -2,7 +2,7 @@
 use Rattle.std.proofs.Common.{◌≡◌, ℕ, zero, suc, ◌+◌, ◌-◌, ◌<◌, ◌≤◌, true, List, [], ◌∷◌, ◌++◌, length, get_or, take, drop, set, replicate, sym, refl, ap, ◌∙◌, append_assoc, append-nil, arith}
 use Rattle.std.proofs.lemmas.List.{set_at, drop_more, take_more, drop_all}
 use Rattle.std.proofs.lemmas.Bool.{false≢true}
-use Rattle.std.specs.List.{AllByRecursion as All}
+use Rattle.std.specs.List.{AllByRecursion}
 use Rattle.feed_types.specs.Limits.{letter, unpadded}
 
 -- one more element takes the place of the first filler
@@ -15,7 +15,7 @@ no_letters : (n : ℕ) → unpadded (replicate n 0) ≡ []
 no_letters zero = refl
 no_letters (suc n) = refl
 
-pub unpadded_padded : (bs : List ℕ) (n : ℕ) → All (λ b. letter b ≡ true) bs → unpadded (bs ++ replicate n 0) ≡ bs
+pub unpadded_padded : (bs : List ℕ) (n : ℕ) → AllByRecursion (λ b. letter b ≡ true) bs → unpadded (bs ++ replicate n 0) ≡ bs
 unpadded_padded [] n h = no_letters n
 unpadded_padded (zero ∷ bs) n h = absurd (false≢true h.0)
 unpadded_padded (suc b ∷ bs) n h = ap (λ l. suc b ∷ l) (unpadded_padded bs n h.1)

@@ -6,7 +6,7 @@
 --   Keeps s ts       the trains of ts are within the limits of the sizes s, where there are sizes
 --   sizes_for o ts   the sizes o, if there is a train: a book without trains has no sizes
 use Rattle.std.specs.Prelude.{◌≡◌, ℕ, ◌<◌, List, [], ◌∷◌, length, pos, Some, None, Option, slice_index_or}
-use Rattle.std.specs.List.{AllByRecursion as All}
+use Rattle.std.specs.List.{AllByRecursion}
 use Rattle.feed_types.specs.declared.types.Sizes.{Sizes}
 use Rattle.feed_types.specs.declared.types.Train.{Train}
 use Rattle.feed_types.specs.Limits.{GoodSizes, GoodTrain}
@@ -26,7 +26,7 @@ Distinct ts = (i j : ℕ) → i < j → j < length ts → SameTrain (at ts i) (a
 
 abbrev pub Keeps : Option Sizes → List Train → Type 0
 Keeps None ts = Unit {0}
-Keeps (Some s) ts = GoodSizes s × All (GoodTrain s) ts
+Keeps (Some s) ts = GoodSizes s × AllByRecursion (GoodTrain s) ts
 
 -- the sizes o, if there is a train
 abbrev pub sizes_for : Option Sizes → List Train → Option Sizes

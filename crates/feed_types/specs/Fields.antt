@@ -8,7 +8,7 @@
 use Rattle.std.specs.Prelude.{◌≡◌, ℕ, ◌≤◌, List, ◌++◌, take, ℤ, pos, decimal}
 use Rattle.std.specs.Str.Iter.{LacksByte}
 use Rattle.std.specs.Fmt.{signed_decimal}
-use Rattle.std.specs.List.{AllByRecursion as All}
+use Rattle.std.specs.List.{AllByRecursion}
 use Rattle.feed_types.specs.declared.faults.FeedFault.{FeedFault}
 use Rattle.feed_types.specs.declared.faults.FeedFault.TheVariants.{TooLong, NoLine, BadValue, OtherSize, OtherValues, BookFull}
 use Rattle.feed_types.specs.declared.keys.Key.{Key}
@@ -20,7 +20,7 @@ abbrev pub Counts : ℕ → ℕ → List ℕ → Type 0
 Counts least most bs = (n : ℕ) × (least ≤ n) × (n ≤ most) × (bs ≡ decimal n)
 
 abbrev pub AllZero : List ℤ → Type 0
-AllZero zs = All (λ z. z ≡ pos 0) zs
+AllZero zs = AllByRecursion (λ z. z ≡ pos 0) zs
 
 abbrev pub Lists : ℕ → ℕ → (List ℤ → Type 0) → List ℕ → Type 0
 Lists n room P bs = (zs : List ℤ) × Factors n room zs × P zs × (bs ≡ commas (take n zs))

@@ -9,7 +9,7 @@
 --   Factors n room zs   zs has `room` numbers within 99, and those past the first n are 0
 --   GoodTrain s t       t keeps to every limit of a feed of sizes s
 use Rattle.std.specs.Prelude.{◌≡◌, ℕ, zero, suc, ◌-◌, ◌≤◌, Bool, true, ◌&&◌, ◌||◌, List, [], ◌∷◌, ◌++◌, length, take, replicate, ℤ, pos, nat_le, unsigned_abs}
-use Rattle.std.specs.List.{AllByRecursion as All}
+use Rattle.std.specs.List.{AllByRecursion}
 use Rattle.feed_types.specs.declared.types.Sizes.{Sizes}
 use Rattle.feed_types.specs.declared.types.Label.{Label}
 use Rattle.feed_types.specs.declared.types.Train.{Train}
@@ -34,7 +34,7 @@ name l = unpadded l.bytes
 pub record LabelText (bs : List ℕ) : Type 0 where
   pub some : 1 ≤ length bs
   pub few : length bs ≤ 8
-  pub letters : All (λ b. letter b ≡ true) bs
+  pub letters : AllByRecursion (λ b. letter b ≡ true) bs
 
 pub record GoodLabel (l : Label) : Type 0 where
   pub text : LabelText (name l)
@@ -45,7 +45,7 @@ Within n z = unsigned_abs z ≤ n
 
 pub record Factors (n room : ℕ) (zs : List ℤ) : Type 0 where
   pub long : length zs ≡ room
-  pub small : All (Within 99) zs
+  pub small : AllByRecursion (Within 99) zs
   pub padded : zs ≡ take n zs ++ replicate (room - n) (pos 0)
 
 pub record GoodTrain (s : Sizes) (t : Train) : Type 0 where
@@ -55,5 +55,5 @@ pub record GoodTrain (s : Sizes) (t : Train) : Type 0 where
   pub late : Factors s.states 4 t.late
   pub moves : Factors s.inputs 3 t.moves
   -- no adjustment is made at the last stop
-  pub last : t.stop ≡ s.stops → All (λ z. z ≡ pos 0) t.moves
+  pub last : t.stop ≡ s.stops → AllByRecursion (λ z. z ≡ pos 0) t.moves
   pub aim : Within 999 t.aim

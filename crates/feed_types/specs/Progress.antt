@@ -3,7 +3,7 @@
 --   JoinedTo bs s p b c q   the trains of the blocks of bs from the place p up to q turn the book b into c, in a feed of sizes s
 --   Stuck bs s c q e        e refuses the block at q: it cannot be read, or its train cannot be joined to the book c
 use Rattle.std.specs.Prelude.{◌≡◌, ℕ, ◌+◌, ◌*◌, ◌<◌, ◌⊎◌, List, ◌++◌, length, drop}
-use Rattle.std.specs.List.{flat_map, AllByRecursion as All}
+use Rattle.std.specs.List.{flat_map, AllByRecursion}
 use Rattle.feed_types.specs.declared.faults.FeedFault.{FeedFault}
 use Rattle.feed_types.specs.declared.keys.Place.{Place}
 use Rattle.feed_types.specs.declared.types.Sizes.{Sizes}
@@ -17,7 +17,7 @@ use Rattle.feed_types.specs.Tokens.{InFeed}
 
 pub record JoinedTo (bs : List ℕ) (s : Sizes) (p : Place) (b c : Register) (q : Place) : Type 0 where
   pub trains : List Train
-  pub good : All (GoodTrain s) trains
+  pub good : AllByRecursion (GoodTrain s) trains
   pub begins : drop p.at bs ≡ run_on (flat_map (block s) trains) ++ drop q.at bs
   pub number : q.line ≡ p.line + 6 * length trains
   pub next : InFeed bs q

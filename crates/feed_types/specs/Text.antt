@@ -10,7 +10,7 @@
 --   text f    these lines in a row
 --   ends bs   how many bytes of bs end a line
 use Rattle.std.specs.Prelude.{ℕ, ◌+◌, cond, List, [], ◌∷◌, ◌++◌, map, take, ℤ, codes, decimal, ◌==◌}
-use Rattle.std.specs.List.{flat_map, join_with_byte, AllByRecursion as All}
+use Rattle.std.specs.List.{flat_map, join_with_byte, AllByRecursion}
 use Rattle.std.specs.Fmt.{signed_decimal}
 use Rattle.feed_types.specs.declared.types.Sizes.{Sizes}
 use Rattle.feed_types.specs.declared.types.Train.{Train}
@@ -22,7 +22,7 @@ pub record Feed : Type 0 where
 
 pub record Good (f : Feed) : Type 0 where
   pub sizes : GoodSizes f.sizes
-  pub trains : All (GoodTrain f.sizes) f.trains
+  pub trains : AllByRecursion (GoodTrain f.sizes) f.trains
 
 abbrev pub commas : List ℤ → List ℕ
 commas zs = join_with_byte 44 (map signed_decimal zs)

@@ -1,5 +1,5 @@
 use Rattle.std.proofs.Common.{◌≡◌, ℕ, ◌+◌, ◌-◌, true, List, ◌++◌, length, get_or, take, set, replicate, sym, ap, ◌∙◌, subst, arith}
-use Rattle.std.specs.List.{AllByRecursion as All}
+use Rattle.std.specs.List.{AllByRecursion}
 use Rattle.std.proofs.lemmas.List.{take_more, length-take-le, take_all}
 use Rattle.std.proofs.ByRecursion.{All-get_or, All-more}
 use Rattle.std.proofs.lemmas.Bool.{true≢false, eqb-false}
@@ -28,7 +28,7 @@ returns c =
     let bs = c.args.text.now in
     let whole : take c.loop-i.i bs ≡ bs = take_all c.loop-i.i bs c.loop-i-test.false in
     let at_end : c.loop-i.i ≡ length bs = omega arith in
-    let all : All (λ b. letter b ≡ true) bs = subst (All (λ b. letter b ≡ true)) whole c.loop-i.invariant.1 in
+    let all : AllByRecursion (λ b. letter b ≡ true) bs = subst (AllByRecursion (λ b. letter b ≡ true)) whole c.loop-i.invariant.1 in
     let filled : c.loop-i.bytes ≡ bs ++ replicate (8 - length bs) 0 = c.loop-i.invariant.0 ∙ ap (λ (l : List ℕ). l ++ replicate (8 - c.loop-i.i) 0) whole ∙ ap (λ (n : ℕ). bs ++ replicate (8 - n) 0) at_end in
     let same : unpadded c.loop-i.bytes ≡ bs = ap unpadded filled ∙ unpadded_padded bs (8 - length bs) all in (
       record {
