@@ -2,7 +2,7 @@
 ghost use Rattle.std.specs.Prelude.{◌≡◌, ℕ, ◌<◌, ◌≤◌, List, length, take, ℤ, decimal, MatchOption, ◌≢◌};
 ghost use Rattle.feed_types.specs.Limits.{Within, Factors};
 ghost use Rattle.feed_types.specs.Text.{commas};
-ghost use Rattle.std.specs.List.{AllByRecursion as All};
+ghost use Rattle.std.specs.List.{AllByRecursion};
 ghost use Rattle.std.specs.Fmt.{signed_decimal};
 
 use super::tokens::find;
@@ -53,7 +53,7 @@ pub fn integer(text: &[u8], most: u16) -> Option<i16>
 // The factors that these bytes write, parted by commas: `count` of them, each between -99 and 99, and zeros after them.
 pub fn factors<const N: usize>(text: &[u8], count: usize) -> Option<[i8; N]>
     requires { (1 ≤ count) × (count ≤ N) }
-    ensures { MatchOption result ((zs : List ℤ) → length zs ≡ count → All (Within 99) zs → text.now ≢ commas zs) (λ zs. Factors count N zs × (text.now ≡ commas (take count zs))) }
+    ensures { MatchOption result ((zs : List ℤ) → length zs ≡ count → AllByRecursion (Within 99) zs → text.now ≢ commas zs) (λ zs. Factors count N zs × (text.now ≡ commas (take count zs))) }
 {
     let mut out = [0i8; N];
     let mut at = 0;

@@ -4,11 +4,11 @@ use Rattle.feed_lines.proofs.fields.count_line.Goals as goal
 
 pub returns-then-n-least : goal.returns-then-n-least
 returns-then-n-least c =
-    let read = c.in-ok-field.ensures in
+    let read = c.in_ok-field.ensures in
     let told = c.in-Some.ensures in (
       refl,
       record {
-        value = c.in-ok-field.field.value.now;
+        value = c.in_ok-field.field.value.now;
         more = _;
         plain = read.plain;
         begins = read.whole;

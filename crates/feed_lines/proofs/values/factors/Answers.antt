@@ -31,15 +31,15 @@ returns-then-end-text g c zs many small e =
     wrong_count c.args.text.now c.args.count g.row.N c.loop-k.k c.loop-k.at c.find-end.result c.loop-k.out c.loop-k.invariant c.loop-k-test.true c.requires.1 c.find-end.ensures zs many small e
     (differ _ _ _ _ c.if-end-text.true)
 
-pub returns-in-err-z : goal.returns-in-err-z
-returns-in-err-z g c = rw c.from_residual.ensures (λ zs many small e.
+pub returns-in_err-z : goal.returns-in_err-z
+returns-in_err-z g c = rw c.from_residual.ensures (λ zs many small e.
     wrong_word c.args.text.now c.args.count g.row.N c.loop-k.k c.loop-k.at c.find-end.result c.loop-k.out c.loop-k.invariant c.loop-k-test.true c.requires.1 c.find-end.ensures zs many small e
-    c.in-err-z.ensures)
+    c.in_err-z.ensures)
 
 pub loop-k-preserved : goal.loop-k-preserved
 loop-k-preserved g c =
-    let z = c.in-ok-z.z in
-    let told = c.in-ok-z.ensures in
+    let z = c.in_ok-z.z in
+    let told = c.in_ok-z.ensures in
     subst (λ (y : ℤ). Sofar c.args.text.now c.args.count g.row.N (c.loop-k.k + 1) (c.find-end.result + 1) (set c.loop-k.out c.loop-k.k y)) (sym (narrowed z told.0))
     (sofar_more c.args.text.now c.args.count g.row.N c.loop-k.k c.loop-k.at c.find-end.result c.loop-k.out c.loop-k.invariant c.loop-k-test.true c.requires.1 c.find-end.ensures z told.0 told.1 (agree _ _ _ _ c.if-end-text.false))
 
