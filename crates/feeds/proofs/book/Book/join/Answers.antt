@@ -7,23 +7,18 @@ use Rattle.feed_types.specs.Joining.{Joins, again, new}
 use Rattle.feed_theory.proofs.OneMore.{distinct_push, agreed_some, keeps_push}
 use Rattle.feeds.proofs.book.Book.join.Goals as goal
 
-pub invariant-of-self : goal.invariant-of-self
-invariant-of-self c =
+pub invariant_of-self : goal.invariant_of-self
+invariant_of-self c =
     let was = c.args.self.now in
     let many = was.trains.ok.0 in
-    let told = c.push-reserved.ensures in (
-      omega (arith, told.len, c.if-len-eq-MOST-TRAINS.false, c.len.ensures, was.few),
-      (
-        omega (arith, told.capacity, was.room),
-        (
-          subst Distinct (sym told.items) (distinct_push (vec_items was.trains) c.args.train was.distinct c.in-None.ensures),
-          (
-            sym (lt-ltb 0 _ (omega (arith, told.len))),
-            (∥∥₁_map was.kept (λ k. subst (Keeps (Some c.args.sizes)) (sym told.items) (keeps_push was.sizes c.args.sizes (vec_items was.trains) c.args.train (was.sized ∙ ap (ltb 0) many) c.requires.fits c.requires.good.0 c.requires.good.1 k)), tt),
-          ),
-        ),
-      ),
-    )
+    let told = c.push_reserved.ensures in
+    record {
+      few = omega (arith, told.len, c.if-len-eq-MOST_TRAINS.false, c.len.ensures, was.few);
+      room = omega (arith, told.capacity, was.room);
+      distinct = subst Distinct (sym told.items) (distinct_push (vec_items was.trains) c.args.train was.distinct c.in-None.ensures);
+      sized = sym (lt-ltb 0 _ (omega (arith, told.len)));
+      kept = ∥∥₁_map was.kept (λ k. subst (Keeps (Some c.args.sizes)) (sym told.items) (keeps_push was.sizes c.args.sizes (vec_items was.trains) c.args.train (was.sized ∙ ap (ltb 0) many) c.requires.fits c.requires.good.0 c.requires.good.1 k));
+    }
 
 pub returns-then-same : goal.returns-then-same
 returns-then-same c =
@@ -33,7 +28,7 @@ returns-then-same c =
       agreed_some was.sizes c.args.sizes (was.sized ∙ lt-ltb 0 _ (omega (arith, was.trains.ok.0, stands.0))) c.requires.fits,
     )
 
-pub returns-else-len-eq-MOST-TRAINS : goal.returns-else-len-eq-MOST-TRAINS
-returns-else-len-eq-MOST-TRAINS c =
+pub returns-else-len-eq-MOST_TRAINS : goal.returns-else-len-eq-MOST_TRAINS
+returns-else-len-eq-MOST_TRAINS c =
     let was = c.args.self.now in
-    (subst (Joins (vec_items was.trains) c.args.train) (sym c.push-reserved.ensures.items) (new c.in-None.ensures (omega (arith, was.trains.ok.0, c.if-len-eq-MOST-TRAINS.false, c.len.ensures, was.few))), refl)
+    (subst (Joins (vec_items was.trains) c.args.train) (sym c.push_reserved.ensures.items) (new c.in-None.ensures (omega (arith, was.trains.ok.0, c.if-len-eq-MOST_TRAINS.false, c.len.ensures, was.few))), refl)

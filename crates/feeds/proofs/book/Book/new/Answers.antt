@@ -5,7 +5,13 @@ use Rattle.feeds.proofs.book.Book.new.Goals as goal
 distinct_none : Distinct []
 distinct_none i j lt within same = omega arith
 
-pub invariant-of-result : goal.invariant-of-result
-invariant-of-result c =
-    let told = c.in-ok-trains.ensures in
-    (omega (arith, told.len), (told.capacity, (subst Distinct (sym told.items) distinct_none, (sym (ap (ltb 0) told.len), (∣ tt ∣₁, tt)))))
+pub invariant_of-result : goal.invariant_of-result
+invariant_of-result c =
+    let told = c.in_ok-trains.ensures in
+    record {
+      few = omega (arith, told.len);
+      room = told.capacity;
+      distinct = subst Distinct (sym told.items) distinct_none;
+      sized = sym (ap (ltb 0) told.len);
+      kept = ∣ tt ∣₁;
+    }

@@ -7,32 +7,32 @@ use Rattle.feed_theory.proofs.Joinings.{joined_grows}
 use Rattle.feed_theory.proofs.Refusing.{stuck, granted, taken_back}
 use Rattle.feeds.proofs.book.Book.take_in.Goals as goal
 
-pub returns-in-err-sizes : goal.returns-in-err-sizes
-returns-in-err-sizes c =
+pub returns-in_err-sizes : goal.returns-in_err-sizes
+returns-in_err-sizes c =
     let p = err_from_is_err_and c.from_residual.result c.from_residual.ensures.1 in
-    rw (p.1, p.2) (c.in-err-sizes.ensures (vec_items c.args.self.now.trains), refl)
+    rw (p.1, p.2) (c.in_err-sizes.ensures (vec_items c.args.self.now.trains), refl)
 
-pub overflow-sub-result : goal.overflow-sub-result
-overflow-sub-result c =
+pub overflow_sub-result : goal.overflow_sub-result
+overflow_sub-result c =
     let grows = joined_grows c.in-Ok.ensures.1.joins in
-    omega (arith, c.len.ensures, c.len-before.ensures, c.args.self.now.trains.ok.0, c.join-blocks.new.self.trains.ok.0, ap length grows.1, length-append (vec_items c.args.self.now.trains) grows.0)
+    omega (arith, c.len.ensures, c.len-before.ensures, c.args.self.now.trains.ok.0, c.join_blocks.new.self.trains.ok.0, ap length grows.1, length-append (vec_items c.args.self.now.trains) grows.0)
 
 pub returns-in-Ok : goal.returns-in-Ok
 returns-in-Ok c =
     let was = c.args.self.now in
-    let now' = c.join-blocks.new.self in
+    let now' = c.join_blocks.new.self in
     let done = c.in-Ok.ensures in
     let e : length (vec_items now'.trains) - length (vec_items was.trains) ≡ c.len.result - c.len-before.result = omega (arith, c.len.ensures, c.len-before.ensures, was.trains.ok.0, now'.trains.ok.0) in
     subst (λ (n : ℕ). Granted c.args.feed.now (held was) n (held now')) e
-    (granted c.args.feed.now was.sizes c.in-ok-sizes.sizes c.in-ok-sizes.from done.0 (held was) (held now') c.if-feed-gt-MOST-BYTES.false refl c.in-ok-sizes.ensures done.1 done.2 (now'.sized ∙ ap (ltb 0) now'.trains.ok.0))
+    (granted c.args.feed.now was.sizes c.in_ok-sizes.sizes c.in_ok-sizes.from done.0 (held was) (held now') c.if-feed-gt-MOST_BYTES.false refl c.in_ok-sizes.ensures done.1 done.2 (now'.sized ∙ ap (ltb 0) now'.trains.ok.0))
 
 pub returns-in-Err : goal.returns-in-Err
 returns-in-Err c =
     let was = c.args.self.now in
-    let now' = c.join-blocks.new.self in
-    let left = c.keep-first.new.self in
+    let now' = c.join_blocks.new.self in
+    let left = c.keep_first.new.self in
     let done = c.in-Err.ensures in (
-      stuck c.args.feed.now was.sizes c.in-ok-sizes.sizes c.in-ok-sizes.from done.0 (held was) (held now') c.if-feed-gt-MOST-BYTES.false refl c.in-ok-sizes.ensures done.1 c.in-Err.fault done.2,
-      taken_back c.args.feed.now was.sizes c.in-ok-sizes.sizes c.in-ok-sizes.from done.0 (held was) (held now') c.if-feed-gt-MOST-BYTES.false refl c.in-ok-sizes.ensures done.1 (was.sized ∙ ap (ltb 0) was.trains.ok.0) (now'.sized ∙ ap (ltb 0) now'.trains.ok.0) (held left)
-          (c.keep-first.ensures.trains ∙ ap (λ (n : ℕ). take n (vec_items now'.trains)) (c.len-before.ensures ∙ was.trains.ok.0)) c.keep-first.ensures.sizes,
+      stuck c.args.feed.now was.sizes c.in_ok-sizes.sizes c.in_ok-sizes.from done.0 (held was) (held now') c.if-feed-gt-MOST_BYTES.false refl c.in_ok-sizes.ensures done.1 c.in-Err.fault done.2,
+      taken_back c.args.feed.now was.sizes c.in_ok-sizes.sizes c.in_ok-sizes.from done.0 (held was) (held now') c.if-feed-gt-MOST_BYTES.false refl c.in_ok-sizes.ensures done.1 (was.sized ∙ ap (ltb 0) was.trains.ok.0) (now'.sized ∙ ap (ltb 0) now'.trains.ok.0) (held left)
+          (c.keep_first.ensures.trains ∙ ap (λ (n : ℕ). take n (vec_items now'.trains)) (c.len-before.ensures ∙ was.trains.ok.0)) c.keep_first.ensures.sizes,
     )
