@@ -9,10 +9,10 @@ product-requires c =
     let hw : nat_abs c.from-weight.result ≤ 65535 = subst (λ (z : ℤ). nat_abs z ≤ 65535) (sym e) h in
     let sw : SFits w64 c.from-weight.result = search rules in
     let sf : SFits w64 c.factor_at.result = search rules in
-    let sp : SFits w64 c.product_above.result = search rules in
+    let sp : SFits w64 c.product-above.result = search rules in
     let sg : SFits w64 c.factor_at-2.result = search rules in
-    room_told c.product_above.result c.factor_at-2.result (65535 * 32768) 32768 sp sg
-    (product_told c.product_above.result c.from-weight.result c.factor_at.result 65535 32768 sw sf hw c.factor_at.ensures.bound c.product_above.ensures)
+    room_told c.product-above.result c.factor_at-2.result (65535 * 32768) 32768 sp sg
+    (product_told c.product-above.result c.from-weight.result c.factor_at.result 65535 32768 sw sf hw c.factor_at.ensures.bound c.product-above.ensures)
     c.factor_at-2.ensures.bound (lit< tt)
 
 pub returns : goal.returns
@@ -22,8 +22,8 @@ returns c =
     let hw : nat_abs c.from-weight.result ≤ 65535 = subst (λ (z : ℤ). nat_abs z ≤ 65535) (sym e) h in
     let sw : SFits w64 c.from-weight.result = search rules in
     let sf : SFits w64 c.factor_at.result = search rules in
-    let sp : SFits w64 c.product_above.result = search rules in
+    let sp : SFits w64 c.product-above.result = search rules in
     let sg : SFits w64 c.factor_at-2.result = search rules in
     let sz : SFits w64 c.product.result = search rules in
-    let r = share_told c.product.result c.from-weight.result c.factor_at.result c.factor_at-2.result c.product_above.result sz sw sf sg sp hw c.factor_at.ensures.bound c.factor_at-2.ensures.bound c.product_above.ensures c.product.ensures in
+    let r = share_told c.product.result c.from-weight.result c.factor_at.result c.factor_at-2.result c.product-above.result sz sw sf sg sp hw c.factor_at.ensures.bound c.factor_at-2.ensures.bound c.product-above.ensures c.product.ensures in
     record { value = r.0 ∙ ap₂ ◌*ℤ◌ (ap₂ ◌*ℤ◌ e c.factor_at.ensures.value) c.factor_at-2.ensures.value; bound = r.1 }
