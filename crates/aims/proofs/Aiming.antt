@@ -1,5 +1,5 @@
 -- Aims in their list, and entries worked one after the other. Assumes nothing.
-use Rattle.std.proofs.Common.{◌≡◌, ℕ, zero, suc, ◌+◌, ◌-◌, ◌*◌, ◌<◌, ◌≤◌, min, max, Bool, true, false, cond, ◌&&◌, T, ltb, ◌≢◌, ◌⊎◌, List, length, get_or, set, replicate, ℤ, pos, IsErrAnd, Ok, Err, Option, Result, sym, refl, ap, ◌∙◌, subst, inl, inr, add-one, arith, ltb→lt, lt→ltb}
+use Rattle.std.proofs.Common.{◌≡◌, ℕ, zero, suc, ◌+◌, ◌*◌, ◌≤◌, ◌&&◌, ltb, List, replicate, ℤ, pos, IsErrAnd, Ok, Err, Option, Result, sym, refl, ap, ◌∙◌, subst, add-one, arith, ltb→lt}
 use native.Mathlib.Decide.{dec_lt, ℕ_discrete}
 use Rattle.algebra.specs.Exact.{Exact}
 use Rattle.lines.specs.declared.faults.LineFault.{LineFault}
@@ -7,7 +7,7 @@ use Rattle.std.proofs.lemmas.List.{get_or_past, get_or-replicate, length-replica
 use Rattle.lines.specs.Meaning.{Entry, holds, marked, Meaning, Answer}
 use Rattle.lines.specs.Whole.{cell}
 use Rattle.algebra.proofs.Booleans.{and_split}
-use Rattle.lines.specs.WholeLines.{when, unless, either}
+use Rattle.lines.specs.WholeLines.{unless, either}
 use Rattle.lines.specs.declared.faults.Mark.{Mark}
 use Rattle.aims.specs.Aimed.{aim, column, column_less_lem, corner, corner_less_lem}
 use Rattle.aims.specs.Entries.{after}

@@ -1,5 +1,5 @@
 -- The line with aims has the costs of the line below, taken at the lateness less the aims. Assumes nothing.
-use Rattle.std.proofs.Common.{◌≡◌, ℕ, zero, suc, ◌+◌, ◌-◌, ◌<◌, ◌≤◌, min, max, Bool, true, false, cond, T, eqb, ltb, ◌≢◌, ℤ, pos, Option, sym, refl, ap, ◌∙◌, subst, ap₂, add-suc, arith, eqb→eq, ltb→lt, lt→ltb}
+use Rattle.std.proofs.Common.{◌≡◌, ℕ, zero, suc, ◌+◌, ◌-◌, ◌<◌, ◌≤◌, min, max, cond, T, eqb, ltb, ℤ, pos, Option, sym, refl, ap, ◌∙◌, subst, ap₂, arith, eqb→eq, ltb→lt, lt→ltb}
 use native.Mathlib.Decide.{dec_lt}
 use lib.Dec.{eqb_refl}
 use Rattle.algebra.specs.Exact.{Exact, Radicand, whole_e, zero_e, one_e, add_e, neg_e, mul_e}
@@ -12,11 +12,11 @@ use Rattle.control.proofs.Lists.{join_left, join_right}
 use Rattle.control.proofs.Sums.{sum_ext, sum_none, sum_split}
 use Rattle.lines.specs.Kinds.{Finds, entry_of}
 use Rattle.lines.specs.Laws.{Lawful, place_mark}
-use Rattle.lines.specs.Meaning.{Entry, holds, marked, Meaning, order, order_of, InG, told, line_of}
+use Rattle.lines.specs.Meaning.{Entry, holds, marked, Meaning, order, InG, told}
 use Rattle.lines.specs.declared.faults.Mark.{Mark}
 use Rattle.lines.specs.Finding.{entry_cases, held, not_held}
 use Rattle.lines.specs.WholeLines.{when, unless, whole_zero}
-use Rattle.aims.specs.Aimed.{column, column_less_lem, corner, corner_less_lem, bordered, aims_line, raised, states_aimed}
+use Rattle.aims.specs.Aimed.{column, corner, bordered, aims_line, raised, states_aimed}
 use Rattle.aims.specs.Entries.{after, less, times_whole}
 use Rattle.aims.specs.Shifting.{HeldStop, less_aims, Shifts}
 use Rattle.aims.specs.Layered.{aims_lawful}

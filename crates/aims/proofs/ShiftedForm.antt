@@ -1,8 +1,8 @@
 -- A quadratic form whose last variable is 1, taken at a shifted list: the shift goes into the last row and column. Assumes nothing.
-use Rattle.std.proofs.Common.{◌≡◌, ℕ, zero, suc, ◌+◌, ◌<◌, sym, refl, ap, ◌∙◌, ap₂, arith}
+use Rattle.std.proofs.Common.{◌≡◌, ℕ, suc, ◌<◌, sym, refl, ap, ◌∙◌, ap₂, arith}
 use Rattle.algebra.specs.Field.{OrderedField}
 use Rattle.algebra.proofs.ExactField.{ring_of}
-use Rattle.algebra.proofs.RingSolver.{◌:+◌, ◌:*◌, ◌:-◌, :neg, ◌≋◌, solve₂, solve₃, solve₄, solve₅, solve₆}
+use Rattle.algebra.proofs.RingSolver.{◌:+◌, ◌:*◌, :neg, ◌≋◌, solve₂, solve₃, solve₄, solve₆}
 use Rattle.control.specs.Matrix.{sum, apply, form}
 use Rattle.control.proofs.Forms.{form_apply}
 use Rattle.control.proofs.Sums.{sum_ext, sum-add, sum-mul, sum_swap}

@@ -13,7 +13,7 @@ use Rattle.std.specs.Prelude.{◌≡◌, ℕ, zero, suc, ◌+◌, ◌-◌, ◌*�
 use Rattle.algebra.specs.Exact.{Exact, add_e}
 use Rattle.lines.specs.Kinds.{entry_of}
 use Rattle.lines.specs.Laws.{place_mark}
-use Rattle.lines.specs.Meaning.{Entry, holds, marked, Meaning, order}
+use Rattle.lines.specs.Meaning.{Entry, Meaning, order}
 use Rattle.lines.specs.Whole.{cell}
 use Rattle.lines.specs.declared.faults.Mark.{Mark}
 use Rattle.aims.specs.declared.faults.AimFault.{AimFault}

@@ -1,14 +1,14 @@
 -- The line with aims is lawful, and its marks are its own or those of the line below. Assumes nothing.
-use Rattle.std.specs.Prelude.{◌≡◌, ℕ, zero, suc, ◌+◌, ◌-◌, ◌<◌, ◌≤◌, min, max, Bool, true, false, cond, T, ◌⊎◌, ℤ, Option, ◌==◌, refl}
+use Rattle.std.specs.Prelude.{◌≡◌, ℕ, zero, suc, ◌+◌, ◌-◌, min, max, Bool, true, false, cond, ◌⊎◌, ℤ, Option, ◌==◌, refl}
 use Rattle.std.proofs.Common.{sym, ◌∙◌, ap, ap₂, subst, inl, inr, arith, eqb→eq}
 use Rattle.std.proofs.Math.Nat as NatL
 use Rattle.algebra.specs.Exact.{Exact, whole_e, zero_e, add_e, neg_e, mul_e}
 use Rattle.lines.specs.Kinds.{entry_of}
-use Rattle.lines.specs.Laws.{Means, Lawful, Levelled, layer, OwnOrBelow, Marks, in_F, in_G, G_mark, place_mark}
-use Rattle.lines.specs.Meaning.{Entry, holds, marked, Meaning, order, InG}
+use Rattle.lines.specs.Laws.{Means, Lawful, Levelled, layer, Marks, in_F, in_G, G_mark, place_mark}
+use Rattle.lines.specs.Meaning.{Entry, holds, marked, Meaning, order}
 use Rattle.lines.specs.declared.faults.Mark.{Mark}
 use Rattle.lines.specs.WholeLines.{unless, entry_mark}
-use Rattle.aims.specs.Aimed.{column, column_less_lem, corner, corner_less_lem, bordered, aims_line, raised, states_aimed}
+use Rattle.aims.specs.Aimed.{column, corner, bordered, aims_line, raised, states_aimed}
 use Rattle.aims.specs.Entries.{after, less, times_whole}
 
 -- where a mark comes from: the entry, or the work after it

@@ -1,9 +1,9 @@
 -- What a kind holds is found: every exact number has lowest parts, and the answer of an operation is the entry that its result makes. Assumes nothing.
-use Rattle.std.specs.Prelude.{◌≡◌, ℕ, zero, suc, ◌*◌, ◌/◌, ◌<◌, ℤ, pos, ◌*ℤ◌, Some, None, Ok, Err, Option, Result, MatchResult, unsigned_abs}
+use Rattle.std.specs.Prelude.{◌≡◌, ℕ, zero, suc, ◌*◌, ◌<◌, ℤ, pos, ◌*ℤ◌, Some, None, Ok, Err, Option, Result, MatchResult, unsigned_abs}
 use Rattle.std.proofs.Math.Path.{refl, sym, ap}
 use Rattle.std.proofs.Common.{◌∙◌, subst, arith, eqb→eq}
 use Rattle.std.proofs.Math.Nat as NatL
-use Rattle.algebra.specs.Exact.{Exact, exact, zero_e, whole_e}
+use Rattle.algebra.specs.Exact.{Exact, exact}
 use Rattle.algebra.specs.Laws.{Plain, LowestParts}
 use Rattle.algebra.proofs.RingSolver.{◌:*◌, lit, ◌≋◌, solve₁, solve₃}
 use Rattle.algebra.proofs.Integers.{ℤ_ring, abs_zero}
@@ -16,7 +16,7 @@ use Rattle.numbers.specs.declared.NumberFault.{NumberFault}
 use Rattle.numbers.specs.declared.NumberFault.TheVariants.{TooLarge, ZeroDivisor}
 use Rattle.lines.specs.declared.faults.Mark.{Mark}
 use Rattle.lines.specs.declared.faults.Placed.{Placed}
-use Rattle.lines.specs.Kinds.{Found, Finds, lowered, lowest_parts_lem, look_up, kept, entry_of, Worked}
+use Rattle.lines.specs.Kinds.{Found, Finds, lowest_parts_lem, look_up, kept, entry_of, Worked}
 use Rattle.lines.specs.Laws.{Means}
 use Rattle.lines.specs.Meaning.{Entry, holds, marked}
 

@@ -1,5 +1,5 @@
 -- A fraction is found by its lowest parts. Assumes nothing.
-use Rattle.std.specs.Prelude.{◌≡◌, ℕ, ◌<◌, ◌≤◌, Bool, true, false, ◌&&◌, T, ℤ, pos, ◌==◌, int_lt, nat_le, unsigned_abs, refl}
+use Rattle.std.specs.Prelude.{◌≡◌, ℕ, ◌≤◌, Bool, true, false, ◌&&◌, T, ℤ, pos, ◌==◌, int_lt, nat_le, unsigned_abs, refl}
 use Rattle.std.proofs.Common.{sym, ap, subst, le→leb, lt→ltb}
 use Rattle.algebra.specs.Exact.{Exact, exact}
 use Rattle.algebra.specs.Laws.{LowestParts}
@@ -8,7 +8,6 @@ use Rattle.numbers.specs.Answers.{Held}
 use Rattle.numbers.specs.Forms.{has_form, within, lowest, plain_row}
 use Rattle.numbers.specs.Fractions.{fraction_size, fraction_value}
 use Rattle.numbers.specs.declared.Parts.{Parts}
-use Rattle.numbers.specs.declared.fraction.Fraction.{Fraction}
 use Rattle.numbers.specs.FractionKind.{holds_exactly}
 use Rattle.lines.specs.Fractions.{find_fraction}
 use Rattle.lines.specs.Kinds.{Found, Finds, pick}

@@ -11,7 +11,7 @@
 --   line_fault f        the number of the refusal f: 1, too large
 --   told K value e      the exact number at a place where e stands; a marked place counts 0
 --   line_of K value m   the line in exact numbers, for the theory of plans
-use Rattle.std.specs.Prelude.{◌≡◌, ℕ, suc, ◌+◌, ◌<◌, ◌≤◌, cond, Ok, Err, Result, ◌==◌, nat_lt}
+use Rattle.std.specs.Prelude.{◌≡◌, ℕ, suc, ◌+◌, ◌<◌, cond, Ok, Err, Result, ◌==◌, nat_lt}
 use Rattle.algebra.specs.Field.{OrderedField}
 use Rattle.control.specs.Line.{Line as ExactLine}
 use Rattle.lines.specs.declared.faults.Mark.{Mark}

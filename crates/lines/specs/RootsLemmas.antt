@@ -4,7 +4,6 @@ use Rattle.algebra.specs.Exact.{exact}
 use Rattle.numbers.specs.Forms.{has_form}
 use Rattle.numbers.specs.RootValues.{root_value}
 use Rattle.numbers.specs.Roots.{root_size, Under}
-use Rattle.numbers.specs.declared.root.Root.{Root}
 use Rattle.numbers.specs.RootKind.{holds_exactly}
 use Rattle.lines.specs.Kinds.{Finds}
 use Rattle.lines.specs.Roots.{find_root}

@@ -1,6 +1,6 @@
 -- A steady line is a lawful line, and has no mark where its numbers are small. Assumes nothing.
-use Rattle.std.specs.Prelude.{◌≡◌, ℕ, suc, ◌+◌, ◌<◌, ◌≤◌, Bool, true, false, cond, ◌&&◌, T, List, length, take, drop, ℤ, pos, Option, ◌==◌, nat_lt, unsigned_abs, refl}
-use Rattle.std.proofs.Common.{sym, ◌∙◌, ap, subst, arith, eqb→eq}
+use Rattle.std.specs.Prelude.{◌≡◌, ℕ, suc, ◌+◌, ◌<◌, ◌≤◌, Bool, true, false, cond, ◌&&◌, T, List, take, drop, ℤ, pos, Option, ◌==◌, nat_lt, unsigned_abs, refl}
+use Rattle.std.proofs.Common.{sym, ◌∙◌, subst, arith, eqb→eq}
 use Rattle.std.proofs.Math.Decide.{dec_lt}
 use Rattle.std.proofs.Math.Dec.{eqb_refl}
 use Rattle.std.proofs.lemmas.List.{get_or_past, get_or-take, get_or-drop, length-take}
@@ -8,7 +8,7 @@ use Rattle.algebra.specs.Exact.{Exact, whole_e, zero_e}
 use Rattle.numbers.specs.Answers.{Held}
 use Rattle.lines.specs.declared.faults.Mark.{Mark}
 use Rattle.lines.specs.Kinds.{Finds}
-use Rattle.lines.specs.Laws.{Means, Lawful, Own, Levelled, bottom, G_mark, Unmarked, Marks, in_F, in_G}
+use Rattle.lines.specs.Laws.{Means, Lawful, Own, Levelled, bottom, Unmarked, in_F, in_G}
 use Rattle.lines.specs.Meaning.{Entry, holds, marked, Meaning, order_of, InG}
 use Rattle.lines.specs.Steadies.{steady_F, steady_G, steady_line, weighted}
 use Rattle.lines.specs.Tables.{upper}

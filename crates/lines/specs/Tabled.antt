@@ -1,5 +1,5 @@
 -- A table is a lawful line, and has no mark where its numbers are small. Assumes nothing.
-use Rattle.std.specs.Prelude.{ℕ, Bool, true, false, cond, List, ℤ, nat_lt}
+use Rattle.std.specs.Prelude.{ℕ, List, ℤ, nat_lt}
 use Rattle.std.proofs.Common.{arith}
 use Rattle.numbers.specs.Fractions.{fraction_value}
 use Rattle.numbers.specs.FractionKind.{wholes}

@@ -10,7 +10,7 @@ use Rattle.std.specs.Prelude.{ℕ, suc, ◌+◌, ◌≤◌, min, max, cond, ◌&
 use Rattle.algebra.specs.Exact.{whole_e}
 use Rattle.lines.specs.Kinds.{entry_of}
 use Rattle.lines.specs.Laws.{place_mark}
-use Rattle.lines.specs.Meaning.{Entry, Meaning, order_of}
+use Rattle.lines.specs.Meaning.{Meaning, order_of}
 
 abbrev pub whole_F : ℕ → ℕ → ℕ → (ℕ → ℕ → ℕ → ℤ) → ℕ → ℕ → ℕ → ℤ
 whole_F end nx nu f n k c =

@@ -1,5 +1,5 @@
 -- A line of whole numbers that are small is lawful, and marks nothing of another level. Assumes nothing.
-use Rattle.std.specs.Prelude.{◌≡◌, ℕ, zero, suc, ◌+◌, ◌<◌, ◌≤◌, min, max, Bool, true, false, cond, ◌&&◌, T, ℤ, pos, Some, None, Option, ◌≢◌, nat_lt, unsigned_abs, refl}
+use Rattle.std.specs.Prelude.{◌≡◌, ℕ, zero, suc, ◌+◌, ◌≤◌, min, max, Bool, true, false, cond, ◌&&◌, T, ℤ, pos, Some, None, Option, ◌≢◌, nat_lt, unsigned_abs, refl}
 use Rattle.std.proofs.Common.{sym, ◌∙◌, ap, ap₂, subst, arith, ltb→lt, lt→ltb}
 use Rattle.std.proofs.Math.Nat as NatL
 use Rattle.algebra.specs.Exact.{Exact, exact, whole_e, zero_e, one_e}
@@ -8,8 +8,8 @@ use Rattle.algebra.proofs.Triples.{exact_zero}
 use Rattle.numbers.specs.Answers.{Held}
 use Rattle.lines.specs.declared.faults.Mark.{Mark}
 use Rattle.lines.specs.Kinds.{Finds, look_up, kept, entry_of}
-use Rattle.lines.specs.Laws.{Means, Lawful, Own, Levelled, bottom, place_mark, Unmarked, Marks, in_F, in_G}
-use Rattle.lines.specs.Meaning.{Entry, holds, marked, Meaning, order_of, InF, InG}
+use Rattle.lines.specs.Laws.{Means, Lawful, Own, Levelled, bottom, place_mark, Unmarked, in_F, in_G}
+use Rattle.lines.specs.Meaning.{holds, marked, Meaning, order_of}
 use Rattle.lines.specs.Whole.{whole_F, whole_G, whole_line, Small}
 use Rattle.lines.specs.Finding.{entry_means}
 

@@ -1,5 +1,5 @@
 -- The line with trains has the costs of the line below plus those of the trains. Assumes nothing.
-use Rattle.std.proofs.Common.{◌≡◌, ℕ, zero, suc, ◌+◌, ◌-◌, ◌<◌, ◌≤◌, min, max, Bool, true, false, cond, ◌&&◌, T, eqb, ltb, ◌⊎◌, [], ℤ, Some, None, Option, sym, refl, ap, ◌∙◌, subst, ap₂, inl, inr, arith, ltb→lt, lt→ltb}
+use Rattle.std.proofs.Common.{◌≡◌, ℕ, suc, ◌+◌, ◌-◌, ◌<◌, min, max, Bool, true, false, cond, ◌&&◌, T, eqb, ltb, [], ℤ, Some, None, Option, sym, refl, ap, ◌∙◌, subst, ap₂, arith, ltb→lt, lt→ltb}
 use lib.Dec.{eqb_refl}
 use Rattle.algebra.specs.Exact.{Exact, Radicand, whole_e, zero_e, one_e, add_e}
 use Rattle.algebra.specs.Field.{OrderedField}
@@ -10,7 +10,7 @@ use Rattle.control.specs.Matrix.{form, join}
 use Rattle.control.proofs.Forms.{form_add, form_ext}
 use Rattle.lines.specs.Kinds.{Finds, entry_of}
 use Rattle.lines.specs.Laws.{place_mark}
-use Rattle.lines.specs.Meaning.{Entry, holds, Meaning, order, told, line_of}
+use Rattle.lines.specs.Meaning.{Entry, Meaning, order, told}
 use Rattle.lines.specs.WholeLines.{when, unless}
 use Rattle.aims.specs.Aimed.{raised}
 use Rattle.aims.specs.Shifting.{HeldStop}

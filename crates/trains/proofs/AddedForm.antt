@@ -1,10 +1,10 @@
 -- The form of what a book adds is the sum of weight × gap² over its trains. Assumes nothing.
-use Rattle.std.proofs.Common.{◌≡◌, ℕ, zero, suc, ◌+◌, ◌<◌, Bool, true, false, cond, eqb, List, [], ◌∷◌, ℤ, pos, ◌+ℤ◌, ◌*ℤ◌, neg_ℤ, fold, sym, refl, ap, ◌∙◌, subst, ap₂, arith}
+use Rattle.std.proofs.Common.{◌≡◌, ℕ, suc, ◌+◌, Bool, true, false, cond, eqb, List, [], ◌∷◌, ℤ, pos, ◌+ℤ◌, ◌*ℤ◌, neg_ℤ, fold, sym, refl, ap, ◌∙◌, ap₂}
 use Rattle.algebra.specs.Field.{OrderedField}
 use Rattle.algebra.specs.Exact.{Exact, Radicand, whole_e, zero_e, one_e, add_e, neg_e, mul_e}
 use Rattle.algebra.proofs.ExactField.{exact_field, ring_of}
 use Rattle.algebra.proofs.Integers.{ℤ_ring}
-use Rattle.algebra.proofs.RingSolver.{◌:+◌, ◌:*◌, ◌:-◌, :neg, ◌≋◌, solve₃, solve₄, solve₅}
+use Rattle.algebra.proofs.RingSolver.{◌:*◌, ◌≋◌, solve₃, solve₅}
 use Rattle.control.specs.Matrix.{sum, form, join}
 use Rattle.control.proofs.Forms.{form_add, form_ext}
 use Rattle.control.proofs.Laws.{zero-mul}

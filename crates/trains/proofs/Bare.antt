@@ -1,5 +1,5 @@
 -- A book without sizes has no trains. Assumes nothing.
-use Rattle.std.proofs.Common.{◌≡◌, ℕ, zero, suc, ◌<◌, ◌≤◌, Bool, true, false, T, ltb, List, [], ◌∷◌, length, is_some, Some, None, vec_items, vec_len, sym, refl, ap, ◌∙◌, subst, arith, lt→ltb}
+use Rattle.std.proofs.Common.{◌≡◌, ◌<◌, T, ltb, List, [], ◌∷◌, length, is_some, None, vec_items, vec_len, sym, refl, ap, ◌∙◌, subst, arith, lt→ltb}
 use Rattle.feeds.specs.Held.{held}
 use Rattle.feeds.specs.declared.book.Book.{Book}
 use Rattle.feed_types.specs.declared.types.Train.{Train}

@@ -1,13 +1,12 @@
 -- Trains over aims: both laws together. Assumes nothing.
-use Rattle.std.proofs.Common.{◌≡◌, ℕ, suc, ◌-◌, ◌<◌, min, max, Bool, true, false, cond, ◌&&◌, ltb, ℤ, Some, None, Option, sym, refl, ap, ◌∙◌, subst}
+use Rattle.std.proofs.Common.{◌≡◌, ℕ, suc, ◌-◌, min, max, Bool, true, false, cond, ◌&&◌, ltb, ℤ, Some, None, Option, ap, ◌∙◌}
 use Rattle.feed_types.specs.declared.types.Sizes.{Sizes}
 use Rattle.algebra.specs.Exact.{Exact, Radicand, zero_e, add_e}
 use Rattle.lines.specs.Laws.{place_mark}
-use Rattle.lines.specs.Meaning.{Entry, holds, Meaning, InG, order}
+use Rattle.lines.specs.Meaning.{holds, Meaning, order}
 use Rattle.aims.specs.Aimed.{aims_line, raised}
-use Rattle.aims.specs.Shifting.{HeldStop, less_aims, Shifts}
+use Rattle.aims.specs.Shifting.{HeldStop, Shifts}
 use Rattle.aims.proofs.Shifted.{after_held}
-use Rattle.feed_types.specs.declared.types.Train.{Train}
 use Rattle.feed_types.specs.Reading.{Register}
 use Rattle.trains.specs.Adding.{book_cost, Adds, ShiftsAndAdds}
 use Rattle.trains.specs.Trained.{weighs, Fits, added, trains_line}

@@ -1,9 +1,9 @@
 -- The sums over a book's trains are at most 64 × 999³ in size. Assumes nothing.
-use Rattle.std.proofs.Common.{◌≡◌, ℕ, zero, suc, ◌+◌, ◌*◌, ◌<◌, ◌≤◌, Bool, true, false, cond, eqb, List, [], ◌∷◌, length, ℤ, pos, ◌+ℤ◌, ◌*ℤ◌, neg_ℤ, nat_abs, Some, None, vec_items, vec_len, fold, Option, sym, refl, ap, ◌∙◌, subst, add-mul, one-mul, arith}
+use Rattle.std.proofs.Common.{◌≡◌, ℕ, zero, suc, ◌+◌, ◌*◌, ◌≤◌, eqb, List, [], ◌∷◌, length, ℤ, pos, ◌+ℤ◌, ◌*ℤ◌, neg_ℤ, nat_abs, Some, None, vec_items, vec_len, fold, Option, sym, refl, subst, arith}
 use mathlib.Core.Logic.{∥∥₁_elim}
 use native.Mathlib.Bridge.{le_prop}
 use native.Mathlib.Decide.{dec_lt}
-use Rattle.std.specs.List.{AllByRecursion as All}
+use Rattle.std.specs.List.{AllByRecursion}
 use Rattle.std.proofs.ByRecursion.{All-get_or}
 use Rattle.std.proofs.lemmas.List.{get_or_past}
 use Rattle.std.proofs.lemmas.Int.{ints}
@@ -26,7 +26,7 @@ join_all P zero f g p q k = q k
 join_all P (suc m) f g p q zero = p 0
 join_all P (suc m) f g p q (suc k) = join_all P m (λ j. f (suc j)) g (λ j. p (suc j)) q k
 
-cell_bound : (zs : List ℤ) → All (Within 99) zs → (i : ℕ) → nat_abs (cell zs i) ≤ 999
+cell_bound : (zs : List ℤ) → AllByRecursion (Within 99) zs → (i : ℕ) → nat_abs (cell zs i) ≤ 999
 cell_bound zs all i =
     elim (dec_lt i (length zs)) [
       | yes l ↦ (let h = All-get_or (Within 99) zs i (pos 0) l all in omega arith)
@@ -47,7 +47,7 @@ module _ (s : Sizes) (n first nx a c : ℕ) where
       either (λ (z : ℤ). nat_abs z ≤ 999 * 999 * 999) (eqb t.stop n) (share first nx t a c) (pos 0)
       (abs_product (pos t.weight *ℤ factor first nx t a) (factor first nx t c) (999 * 999) 999 (abs_product (pos t.weight) (factor first nx t a) 999 999 g.weight.1 (factor_bound t g a)) (factor_bound t g c)) (omega arith)
 
-  fold_bound : (ts : List Train) → All (GoodTrain s) ts → (z : ℤ) → nat_abs (fold (λ s t. s +ℤ at_stop n t (share first nx t a c)) z ts) ≤ nat_abs z + length ts * (999 * 999 * 999)
+  fold_bound : (ts : List Train) → AllByRecursion (GoodTrain s) ts → (z : ℤ) → nat_abs (fold (λ s t. s +ℤ at_stop n t (share first nx t a c)) z ts) ≤ nat_abs z + length ts * (999 * 999 * 999)
   fold_bound [] all z = omega arith
   fold_bound (t ∷ ts) all z =
       let h = fold_bound ts all.1 (z +ℤ at_stop n t (share first nx t a c)) in

@@ -1,5 +1,5 @@
 -- The factors of a train by their places, and how large they are. Assumes nothing.
-use Rattle.std.proofs.Common.{◌≡◌, ℕ, zero, suc, ◌+◌, ◌-◌, ◌*◌, ◌^◌, ◌<◌, ◌≤◌, T, eqb, List, length, get_or, take, ℤ, pos, ◌+ℤ◌, ◌*ℤ◌, neg_ℤ, nat_abs, sym, refl, ap, ◌∙◌, subst, ap₂, add-mul, mul-le-mul, one-mul, arith, eqb→eq, w64, SFits, to_z, of_z}
+use Rattle.std.proofs.Common.{◌≡◌, ℕ, ◌+◌, ◌-◌, ◌*◌, ◌^◌, ◌<◌, ◌≤◌, T, eqb, List, length, get_or, take, ℤ, pos, ◌+ℤ◌, ◌*ℤ◌, neg_ℤ, nat_abs, sym, ap, ◌∙◌, subst, ap₂, add-mul, mul-le-mul, one-mul, arith, eqb→eq, w64, SFits, to_z, of_z}
 use Rattle.numbers.specs.Machine.{fits}
 use Rattle.numbers.specs.Bounds.{abs_add}
 use Rattle.std.proofs.lemmas.Int.{to_z-of_z}

@@ -7,7 +7,6 @@ use Rattle.lines.specs.declared.faults.LineFault.{LineFault}
 use Rattle.lines.specs.declared.faults.Mark.{Mark}
 use Rattle.lines.specs.WholeLines.{when}
 use Rattle.aims.specs.Aimed.{raised}
-use Rattle.aims.specs.Entries.{after}
 use Rattle.aims.proofs.Aiming.{after_holds}
 use Rattle.feed_types.specs.Reading.{Register}
 use Rattle.trains.specs.Trained.{weighs, plus_whole, added, trains_line}

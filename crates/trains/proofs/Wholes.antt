@@ -1,8 +1,8 @@
 -- Whole numbers as exact numbers: sums, products, opposites. Assumes nothing.
-use Rattle.std.proofs.Common.{◌≡◌, ℕ, ℤ, pos, ◌+ℤ◌, ◌*ℤ◌, neg_ℤ, sym, refl, ap, ◌∙◌, ap₂, arith}
-use Rattle.algebra.specs.Exact.{Exact, exact, whole_e, add_e, neg_e, mul_e}
+use Rattle.std.proofs.Common.{◌≡◌, ℕ, ℤ, pos, ◌+ℤ◌, ◌*ℤ◌, neg_ℤ, sym, ap, ◌∙◌, ap₂, arith}
+use Rattle.algebra.specs.Exact.{exact, whole_e, add_e, neg_e, mul_e}
 use Rattle.algebra.proofs.Integers.{ℤ_ring}
-use Rattle.algebra.proofs.RingSolver.{◌:+◌, ◌:*◌, lit, ◌≋◌, solve₁, solve₂, solve₃}
+use Rattle.algebra.proofs.RingSolver.{◌:+◌, ◌:*◌, lit, ◌≋◌, solve₂, solve₃}
 use Rattle.algebra.proofs.Triples.{exact_add, exact_mul, exact_neg}
 
 pub whole_add : (D : ℕ) (a b : ℤ) → whole_e D (a +ℤ b) ≡ add_e (whole_e D a) (whole_e D b)

@@ -1,12 +1,12 @@
 -- The line with trains is lawful, and its marks are its own or those of the line below. Assumes nothing.
-use Rattle.std.specs.Prelude.{◌≡◌, ℕ, zero, suc, ◌+◌, ◌-◌, ◌<◌, ◌≤◌, min, max, Bool, true, false, cond, ◌&&◌, T, ◌⊎◌, ℤ, Option, nat_lt, refl}
+use Rattle.std.specs.Prelude.{◌≡◌, ℕ, suc, ◌-◌, min, max, Bool, true, false, cond, ◌&&◌, ◌⊎◌, ℤ, Option, nat_lt, refl}
 use Rattle.std.proofs.Common.{sym, ◌∙◌, ap, ap₂, subst, inl, inr, arith, ltb→lt}
 use Rattle.std.proofs.Math.Nat as NatL
 use Rattle.algebra.specs.Exact.{Exact, whole_e, zero_e, add_e}
 use Rattle.algebra.proofs.Booleans.{and_split}
 use Rattle.lines.specs.Kinds.{entry_of}
-use Rattle.lines.specs.Laws.{Means, Lawful, Levelled, layer, OwnOrBelow, Marks, in_F, in_G, G_mark, place_mark}
-use Rattle.lines.specs.Meaning.{Entry, holds, marked, Meaning, order, InG}
+use Rattle.lines.specs.Laws.{Means, Lawful, Levelled, layer, Marks, in_F, in_G, G_mark, place_mark}
+use Rattle.lines.specs.Meaning.{Entry, marked, Meaning, order}
 use Rattle.lines.specs.declared.faults.Mark.{Mark}
 use Rattle.lines.specs.WholeLines.{unless, entry_mark}
 use Rattle.aims.specs.Aimed.{raised}

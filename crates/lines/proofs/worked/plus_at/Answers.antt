@@ -1,4 +1,4 @@
-use Rattle.algebra.specs.Exact.{whole_e, add_e, neg_e, mul_e}
+use Rattle.algebra.specs.Exact.{add_e}
 use Rattle.lines.specs.Finding.{worked}
 use Rattle.lines.proofs.worked.plus_at.Goals as goal
 

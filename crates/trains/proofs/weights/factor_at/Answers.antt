@@ -1,4 +1,4 @@
-use Rattle.std.proofs.Common.{neg_ℤ, sym, ap, ◌∙◌, arith, w16, w64, SFits, rules}
+use Rattle.std.proofs.Common.{neg_ℤ, sym, ap, ◌∙◌, w16, w64, SFits, rules}
 use Rattle.std.proofs.lemmas.Int.{to_z-of_z}
 use Rattle.trains.proofs.Factors.{factor_move, factor_late, factor_aim, told}
 use Rattle.trains.proofs.weights.factor_at.Goals as goal

@@ -1,9 +1,9 @@
-use Rattle.std.proofs.Common.{◌≡◌, ℕ, ◌+◌, ◌*◌, ◌^◌, ◌<◌, ◌≤◌, List, [], get_or, take, ℤ, pos, ◌+ℤ◌, nat_abs, sym, ap, ◌∙◌, subst, arith, w64, SFits, to_z, of_z, rules}
+use Rattle.std.proofs.Common.{◌≡◌, ◌+◌, ◌*◌, ◌≤◌, List, get_or, take, ℤ, pos, ◌+ℤ◌, nat_abs, sym, ap, ◌∙◌, subst, arith, w64, SFits}
 use Rattle.std.proofs.lemmas.List.{take_all}
 use Rattle.std.proofs.lemmas.Int.{ints}
 use Rattle.feed_types.specs.declared.types.Train.{Train}
 use Rattle.feed_types.specs.Books.{no_train}
-use Rattle.trains.specs.Weights.{weighed, at_stop, share}
+use Rattle.trains.specs.Weights.{weighed, share}
 use Rattle.trains.proofs.Factors.{weighed_more, here, elsewhere, sum_told}
 use Rattle.trains.proofs.weights.weight_of.Goals as goal
 use Rattle.trains.proofs.weights.weight_of.Goals.{then-from-stop, else-from-stop}

@@ -1,8 +1,6 @@
-use Rattle.std.proofs.Common.{◌≡◌, ℕ, suc, ◌^◌, ◌<◌, max, T, eqb, sym, ◌∙◌, subst, arith, eqb→eq, rules}
-use Rattle.lines.specs.Laws.{place_mark}
+use Rattle.std.proofs.Common.{◌≡◌, suc, ◌^◌, ◌<◌, max, eqb, sym, ◌∙◌, subst, eqb→eq, rules}
 use Rattle.lines.specs.Meaning.{Entry, Answer, order, order_of}
 use Rattle.lines.specs.WholeLines.{unless}
-use Rattle.aims.specs.Aimed.{aims_line, aim}
 use Rattle.aims.proofs.entries.AimsLine.g.Goals as goal
 
 pub returns-in_default : goal.returns-in_default

@@ -1,6 +1,6 @@
-use Rattle.std.proofs.Common.{◌≡◌, ℕ, ◌+◌, ◌-◌, ◌≤◌, min, sym, ap, ◌∙◌, subst, arith, rules}
+use Rattle.std.proofs.Common.{◌≡◌, ℕ, ◌+◌, ◌-◌, min, subst, arith}
 use Rattle.lines.specs.Meaning.{holds, marked}
-use Rattle.aims.specs.Aimed.{aim, column, column_less_lem}
+use Rattle.aims.specs.Aimed.{aim, column_less_lem}
 use Rattle.aims.proofs.Aiming.{passed, column_more, column_stays}
 use Rattle.aims.proofs.layer.Aims.column.Goals as goal
 

@@ -1,6 +1,6 @@
-use Rattle.std.proofs.Common.{◌≡◌, ℕ, ◌+◌, ◌-◌, ◌≤◌, min, arith, rules}
+use Rattle.std.proofs.Common.{◌+◌, ◌-◌, min, arith}
 use Rattle.lines.specs.Meaning.{holds, marked}
-use Rattle.aims.specs.Aimed.{aim, corner, corner_less_lem}
+use Rattle.aims.specs.Aimed.{aim}
 use Rattle.aims.proofs.Aiming.{passed, corner_more, corner_stays}
 use Rattle.aims.proofs.layer.Aims.corner.Goals as goal
 

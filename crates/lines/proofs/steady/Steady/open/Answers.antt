@@ -1,4 +1,4 @@
-use Rattle.std.proofs.Common.{◌≡◌, List, length, take, drop, ℤ, sym, refl, subst, arith, rules}
+use Rattle.std.proofs.Common.{◌≡◌, length, take, drop, sym, refl, subst, arith}
 use Rattle.lines.specs.Whole.{SmallFrom}
 use Rattle.lines.specs.Steadied.{steady_unmarked, part_small}
 use Rattle.lines.proofs.steady.Steady.open.Goals as goal

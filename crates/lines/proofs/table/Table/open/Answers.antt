@@ -1,4 +1,4 @@
-use Rattle.std.proofs.Common.{◌≡◌, ℕ, List, length, ℤ, vec_items, vec_len, sym, refl, ◌∙◌, subst, arith, rules}
+use Rattle.std.proofs.Common.{◌≡◌, ℕ, List, length, ℤ, vec_items, refl, subst, rules}
 use Rattle.lines.specs.Opening.{TableHeader}
 use Rattle.lines.specs.Tables.{table_length}
 use Rattle.lines.specs.Whole.{SmallFrom}
