@@ -53,7 +53,7 @@ module _ (K : OrderedField) (w : ℕ) (r : ℕ → ℕ → K.Car) where
 module _ (K : OrderedField) (w : ℕ) (A : ℕ → ℕ → K.Car) where
   open K use {Car}
 
-  fill_is_by : (g : ℕ → Car) (j : ℕ) (z : ℕ → Car) → fill K w A g j z ≡ fill_by K w (factor_of K A) g j z
+  pub fill_is_by : (g : ℕ → Car) (j : ℕ) (z : ℕ → Car) → fill K w A g j z ≡ fill_by K w (factor_of K A) g j z
   unfolding fill fill_by
   fill_is_by g zero z = refl
   fill_is_by g (suc j) z = fill_is_by g j _

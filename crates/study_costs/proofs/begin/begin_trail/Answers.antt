@@ -10,5 +10,5 @@ returns g c = (
   refl,
   begun g.N.Number (shape c.args.sizes) c.args.trail.now c.enter.new.sheet c.clear.new.sheet c.enter.auto.sheet c.clear.auto.sheet
       c.args.start.now c.trail_length-need.result c.trail_length-need.ensures
-      (just_long _ _ c.if-start-sizes.false, long_enough _ _ _ c.trail_length-need.ensures c.if-trail_need.false) c.enter.ensures c.clear.ensures,
+      (just_long _ _ c.if-start-sizes.false, long_enough _ _ _ c.trail_length-need.ensures c.if-trail-need.false) c.enter.ensures c.clear.ensures,
 )
