@@ -24,7 +24,7 @@ returns-in-Ok c =
     let done = c.in-Ok.ensures in
     let e : length (vec_items now'.trains) - length (vec_items was.trains) ≡ c.len.result - c.len-before.result = omega (arith, c.len.ensures, c.len-before.ensures, was.trains.ok.0, now'.trains.ok.0) in
     subst (λ (n : ℕ). Granted c.args.feed.now (held was) n (held now')) e
-    (granted c.args.feed.now was.sizes c.in_ok-sizes.sizes c.in_ok-sizes.from done.0 (held was) (held now') c.if-feed-gt-MOST_BYTES.false refl c.in_ok-sizes.ensures done.1 done.2 (now'.sized ∙ ap (ltb 0) now'.trains.ok.0))
+    (granted c.args.feed.now was.sizes c.in_ok-sizes.sizes c.in_ok-sizes.from done.0 (held was) (held now') (omega arith) refl c.in_ok-sizes.ensures done.1 done.2 (now'.sized ∙ ap (ltb 0) now'.trains.ok.0))
 
 pub returns-in-Err : goal.returns-in-Err
 returns-in-Err c =
@@ -32,7 +32,7 @@ returns-in-Err c =
     let now' = c.join_blocks.new.self in
     let left = c.keep_first.new.self in
     let done = c.in-Err.ensures in (
-      stuck c.args.feed.now was.sizes c.in_ok-sizes.sizes c.in_ok-sizes.from done.0 (held was) (held now') c.if-feed-gt-MOST_BYTES.false refl c.in_ok-sizes.ensures done.1 c.in-Err.fault done.2,
-      taken_back c.args.feed.now was.sizes c.in_ok-sizes.sizes c.in_ok-sizes.from done.0 (held was) (held now') c.if-feed-gt-MOST_BYTES.false refl c.in_ok-sizes.ensures done.1 (was.sized ∙ ap (ltb 0) was.trains.ok.0) (now'.sized ∙ ap (ltb 0) now'.trains.ok.0) (held left)
+      stuck c.args.feed.now was.sizes c.in_ok-sizes.sizes c.in_ok-sizes.from done.0 (held was) (held now') (omega arith) refl c.in_ok-sizes.ensures done.1 c.in-Err.fault done.2,
+      taken_back c.args.feed.now was.sizes c.in_ok-sizes.sizes c.in_ok-sizes.from done.0 (held was) (held now') (omega arith) refl c.in_ok-sizes.ensures done.1 (was.sized ∙ ap (ltb 0) was.trains.ok.0) (now'.sized ∙ ap (ltb 0) now'.trains.ok.0) (held left)
           (c.keep_first.ensures.trains ∙ ap (λ (n : ℕ). take n (vec_items now'.trains)) (c.len-before.ensures ∙ was.trains.ok.0)) c.keep_first.ensures.sizes,
     )
