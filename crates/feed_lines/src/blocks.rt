@@ -3,7 +3,7 @@ ghost use Rattle.std.specs.Prelude.{◌≡◌, ◌≤◌, List, length, drop, Ma
 ghost use Rattle.feed_types.specs.declared.types.Train.{Train};
 ghost use Rattle.feed_types.specs.Blocks.{ReadSize, BadSize, ReadHeader, ReadBlock, BadBlock};
 ghost use Rattle.feed_types.specs.Limits.{GoodSizes};
-ghost use Rattle.feed_types.specs.Reading.{Refused, size_at_lem};
+ghost use Rattle.feed_types.specs.Reading.{Refused, size_at};
 ghost use Rattle.feed_types.specs.Tokens.{InFeed};
 
 use super::fields::{count_line, factors_line, integer_line, label_line};
@@ -43,7 +43,7 @@ pub fn read_block(feed: &[u8], from: Place, sizes: Sizes) -> Result<(Train, Plac
 
 // The size that line `k` of a header gives.
 fn size_at(sizes: Sizes, k: usize) -> u8
-    ensures { result ≡ size_at_lem k sizes }
+    ensures { result ≡ size_at k sizes }
 {
     match k {
         0 => sizes.stops,

@@ -9,7 +9,7 @@ use Rattle.feed_types.specs.declared.types.Train.{Train}
 use Rattle.feed_types.specs.Blocks.{IsHeld, ReadSize, BadSize, ReadHeader}
 use Rattle.feed_types.specs.Joining.{Joined, none}
 use Rattle.feed_types.specs.Limits.{GoodSizes}
-use Rattle.feed_types.specs.Reading.{Register, Refused, Before, key_at, size_at_lem}
+use Rattle.feed_types.specs.Reading.{Register, Refused, Before, key_at, size_at}
 use Rattle.feed_types.specs.Text.{header, line, run_on}
 use Rattle.feed_types.specs.Tokens.{spelt, InFeed}
 use Rattle.feed_theory.proofs.BlockLines.{run_on_append, same_from_line}
@@ -26,7 +26,7 @@ put zero n s = record { stops = n; states = s.states; inputs = s.inputs }
 put (suc zero) n s = record { stops = s.stops; states = n; inputs = s.inputs }
 put (suc (suc i)) n s = record { stops = s.stops; states = s.states; inputs = n }
 
-good_size : (s : Sizes) (i : ℕ) → GoodSizes s → (1 ≤ size_at_lem i s) × (size_at_lem i s ≤ limit i)
+good_size : (s : Sizes) (i : ℕ) → GoodSizes s → (1 ≤ size_at i s) × (size_at i s ≤ limit i)
 good_size s zero g = g.stops
 good_size s (suc zero) g = g.states
 good_size s (suc (suc i)) g = g.inputs
@@ -36,12 +36,12 @@ good_put s zero n g l h = record { stops = (l, h); states = g.states; inputs = g
 good_put s (suc zero) n g l h = record { stops = g.stops; states = (l, h); inputs = g.inputs }
 good_put s (suc (suc i)) n g l h = record { stops = g.stops; states = g.states; inputs = (l, h) }
 
-size_put : (s : Sizes) (i n : ℕ) → size_at_lem i (put i n s) ≡ n
+size_put : (s : Sizes) (i n : ℕ) → size_at i (put i n s) ≡ n
 size_put s zero n = refl
 size_put s (suc zero) n = refl
 size_put s (suc (suc i)) n = refl
 
-size_kept : (s : Sizes) (i n k : ℕ) → k < i → i < 3 → size_at_lem k (put i n s) ≡ size_at_lem k s
+size_kept : (s : Sizes) (i n k : ℕ) → k < i → i < 3 → size_at k (put i n s) ≡ size_at k s
 size_kept s zero n k h j = absurd (omega arith)
 size_kept s (suc zero) n zero h j = refl
 size_kept s (suc zero) n (suc k) h j = absurd (omega arith)
@@ -59,7 +59,7 @@ header_put s (suc (suc (suc i))) n h = absurd (omega arith)
 -- the first i lines of the header are those of s, and q is the place after them
 pub record HeaderTo (bs : List ℕ) (held : Option Sizes) (i : ℕ) (s : Sizes) (q : Place) : Type 0 where
   pub good : GoodSizes s
-  pub agrees : (k : ℕ) → k < i → IsHeld held k (size_at_lem k s)
+  pub agrees : (k : ℕ) → k < i → IsHeld held k (size_at k s)
   pub begins : bs ≡ run_on (take i (header s)) ++ drop q.at bs
   pub number : q.line ≡ suc i
   pub next : InFeed bs q
@@ -84,7 +84,7 @@ run_put s i n rest more h e =
     ∙ ap (λ (l : List ℕ). l ++ more) (sym (run_on_append (take i (header s)) (line (spelt (key_at i)) (decimal n) ∷ [])))
     ∙ ap (λ (l : List (List ℕ)). run_on l ++ more) (sym (header_put s i n h))
 
-agrees_put : (held : Option Sizes) (s : Sizes) (i n : ℕ) → i < 3 → ((k : ℕ) → k < i → IsHeld held k (size_at_lem k s)) → (k : ℕ) → k < i → IsHeld held k (size_at_lem k (put i n s))
+agrees_put : (held : Option Sizes) (s : Sizes) (i n : ℕ) → i < 3 → ((k : ℕ) → k < i → IsHeld held k (size_at k s)) → (k : ℕ) → k < i → IsHeld held k (size_at k (put i n s))
 agrees_put held s i n h a k lt u e = a k lt u e ∙ sym (size_kept s i n k lt h)
 
 pub one_size_more : (bs : List ℕ) (held : Option Sizes) (i n : ℕ) (s : Sizes) (q r : Place) → i < 3 → HeaderTo bs held i s q → ReadSize bs q (key_at i) i (limit i) held n r → HeaderTo bs held (suc i) (put i n s) r
@@ -96,18 +96,18 @@ one_size_more bs held i n s q r h t m = record {
   next = m.line.next;
 }
   where
-    agrees : (k : ℕ) → k < suc i → IsHeld held k (size_at_lem k (put i n s))
+    agrees : (k : ℕ) → k < suc i → IsHeld held k (size_at k (put i n s))
     agrees k lt u e = go (ℕ_discrete k i)
       where
-        go : Dec (k ≡ i) → size_at_lem k u ≡ size_at_lem k (put i n s)
-        go (yes same) = subst (λ (j : ℕ). size_at_lem j u ≡ size_at_lem j (put i n s)) (sym same) (m.agrees u e ∙ sym (size_put s i n))
+        go : Dec (k ≡ i) → size_at k u ≡ size_at k (put i n s)
+        go (yes same) = subst (λ (j : ℕ). size_at j u ≡ size_at j (put i n s)) (sym same) (m.agrees u e ∙ sym (size_put s i n))
         go (no other) = agrees_put held s i n h t.agrees k (omega arith) u e
 
 module _ (bs : List ℕ) (held : Option Sizes) (i : ℕ) (s : Sizes) (q : Place) (h : i < 3) (few : length bs ≤ 8192) (t : HeaderTo bs held i s q) (ts : List Train) where
   abbrev book : Register
   book = record { sizes = held; trains = ts }
 
-  before : (u : Sizes) → ((k : ℕ) → k < i → IsHeld held k (size_at_lem k u)) → Before book i (bare u)
+  before : (u : Sizes) → ((k : ℕ) → k < i → IsHeld held k (size_at k u)) → Before book i (bare u)
   before u a = record { sizes = λ k lt _ v e. a k lt v e; after = ts; joined = subst (λ (l : List Train). Joined ts l ts) (nothing ((i - 3) / 6)) none }
     where
       nothing : (n : ℕ) → ◌≡◌ {A = List Train} [] (take n [])
@@ -148,7 +148,7 @@ module _ (bs : List ℕ) (held : Option Sizes) (i : ℕ) (s : Sizes) (q : Place)
         broken = λ g st.
             let next = next_of bs i (bare s) g (key_at i) b.1.value (drop q.at bs) b.1.more b.1.more (header_starts bs i s (drop q.at bs) t.good (omega arith) t.begins) b.1.begins b.1.plain st in
             let fine = good_size g.sizes i st.good.sizes in
-            b.1.broken (size_at_lem i g.sizes, fine.0, fine.1, same_from_line (spelt (key_at i)) b.1.value (decimal (size_at_lem i g.sizes)) (sym next.1 ∙ header_line g i h));
+            b.1.broken (size_at i g.sizes, fine.0, fine.1, same_from_line (spelt (key_at i)) b.1.value (decimal (size_at i g.sizes)) (sym next.1 ∙ header_line g i h));
       },
     ),
   )

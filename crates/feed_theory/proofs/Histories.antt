@@ -9,7 +9,7 @@ use Rattle.feed_types.specs.declared.types.Train.{Train}
 use Rattle.feed_types.specs.Books.{at, no_train, Distinct, sizes_for}
 use Rattle.feed_types.specs.History.{start, granted, refused, EveryHistory, KeepsSlots, AgainNothing}
 use Rattle.feed_types.specs.Joining.{Joins, again, new, Joined, none, more}
-use Rattle.feed_types.specs.Reading.{Register, Agreed, Granted, Reading, size_at_lem}
+use Rattle.feed_types.specs.Reading.{Register, Agreed, Granted, Reading, size_at}
 use Rattle.feed_types.specs.Text.{Feed}
 use Rattle.feed_theory.proofs.Answering.{joined_distinct}
 use Rattle.feed_theory.proofs.Joinings.{joined_grows}
@@ -128,7 +128,7 @@ again_nothing bs b c n d g q e r =
     }) q e r
   where
     own : Agreed c g.feed.sizes
-    own i l u p = ap (size_at_lem i) (held c.trains (sym g.sizes ∙ p))
+    own i l u p = ap (size_at i) (held c.trains (sym g.sizes ∙ p))
       where
         held : (ts : List Train) → sizes_for (Some g.feed.sizes) ts ≡ Some u → u ≡ g.feed.sizes
         held [] x = absurd (nothing x)

@@ -10,7 +10,7 @@ use Rattle.feed_types.specs.Blocks.{ReadBlock}
 use Rattle.feed_types.specs.Joining.{Joins, again, new, Joined, none, more}
 use Rattle.feed_types.specs.Limits.{GoodTrain}
 use Rattle.feed_types.specs.Progress.{JoinedTo}
-use Rattle.feed_types.specs.Reading.{Register, Agreed, size_at_lem}
+use Rattle.feed_types.specs.Reading.{Register, Agreed, size_at}
 use Rattle.feed_types.specs.Text.{block, run_on}
 use Rattle.feed_types.specs.Tokens.{InFeed}
 use Rattle.feed_theory.proofs.BlockLines.{run_on_append}
@@ -47,7 +47,7 @@ one_block_more bs s p q r b c d t j m joins a = record {
 
 -- sizes of its own agree with a feed's
 pub agreed_own : (s : Sizes) (d : Register) → d.sizes ≡ Some s → Agreed d s
-agreed_own s d e i h u f = ap (size_at_lem i) (same_some u s (sym f ∙ e))
+agreed_own s d e i h u f = ap (size_at i) (same_some u s (sym f ∙ e))
   where
     same_some : (u v : Sizes) → Some u ≡ Some v → u ≡ v
     same_some u v p = cc

@@ -8,7 +8,7 @@ use Rattle.feed_types.specs.declared.types.Train.{Train}
 use Rattle.feed_types.specs.Books.{at, no_train, Distinct}
 use Rattle.feed_types.specs.Joining.{Stands, Absent, Joins, again, new, Joined, none, more}
 use Rattle.feed_types.specs.Limits.{GoodTrain}
-use Rattle.feed_types.specs.Reading.{Register, Starts, LacksLine, BreaksRule, HasOtherSize, AtBlock, train_of, MayEnd, key_at, size_at_lem}
+use Rattle.feed_types.specs.Reading.{Register, Starts, LacksLine, BreaksRule, HasOtherSize, AtBlock, train_of, MayEnd, key_at, size_at}
 use Rattle.feed_types.specs.Text.{Feed, Good, line, lines, run_on}
 use Rattle.feed_types.specs.Tokens.{spelt}
 use Rattle.feed_theory.proofs.Answering.{Reach, reach_less, whole_trains, joined_same, joined_distinct, stands_same, same_slot}
@@ -19,7 +19,7 @@ use Rattle.feed_theory.proofs.Unique.{count_lacks, keyed_block}
 -- every line of a good feed has its key
 pub keyed_line : (f : Feed) (k : ℕ) → Good f → k < length (lines f) → (v : List ℕ) × LacksByte 10 v × (get_or (lines f) k [] ≡ line (spelt (key_at k)) v)
 keyed_line f k g h = elim (cases_lt k 3) [
-  | inl lt ↦ (decimal (size_at_lem k f.sizes), count_lacks (size_at_lem k f.sizes) (small k), header_line f k lt)
+  | inl lt ↦ (decimal (size_at k f.sizes), count_lacks (size_at k f.sizes) (small k), header_line f k lt)
   | inr le ↦
       let i : ℕ = (k - 3) % 6 in
       let j : ℕ = (k - 3) / 6 in
@@ -30,7 +30,7 @@ keyed_line f k g h = elim (cases_lt k 3) [
       (found.0, found.1, ap (λ (n : ℕ). get_or (lines f) n []) (sym place) ∙ block_line f j i long inside ∙ found.2 ∙ ap (λ x. line (spelt x) found.0) (sym (key_in_block j i inside) ∙ ap key_at place))
 ]
   where
-    small : (n : ℕ) → size_at_lem n f.sizes ≤ 999
+    small : (n : ℕ) → size_at n f.sizes ≤ 999
     small zero = omega (arith, g.sizes.stops.1)
     small (suc zero) = omega (arith, g.sizes.states.1)
     small (suc (suc n)) = omega (arith, g.sizes.inputs.1)

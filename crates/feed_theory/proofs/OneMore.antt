@@ -8,7 +8,7 @@ use Rattle.feed_types.specs.declared.types.Train.{Train}
 use Rattle.feed_types.specs.Books.{at, no_train, SameTrain, Distinct, Keeps, sizes_for}
 use Rattle.feed_types.specs.Joining.{Absent}
 use Rattle.feed_types.specs.Limits.{GoodSizes, GoodTrain}
-use Rattle.feed_types.specs.Reading.{size_at_lem}
+use Rattle.feed_types.specs.Reading.{size_at}
 
 pub at_left : (ts : List Train) (t : Train) (k : ℕ) → k < length ts → at (ts ++ (t ∷ [])) k ≡ at ts k
 at_left ts t k h = get_or_append_left ts (t ∷ []) no_train k h
@@ -30,7 +30,7 @@ distinct_push ts t d absent i j lt within same = elim (split j (length ts) (omeg
 ]
 
 -- sizes that agree are the book's
-pub agreed_some : (held : Option Sizes) (s : Sizes) → is_some held ≡ true → ((i : ℕ) → i < 3 → (u : Sizes) → held ≡ Some u → size_at_lem i u ≡ size_at_lem i s) → held ≡ Some s
+pub agreed_some : (held : Option Sizes) (s : Sizes) → is_some held ≡ true → ((i : ℕ) → i < 3 → (u : Sizes) → held ≡ Some u → size_at i u ≡ size_at i s) → held ≡ Some s
 agreed_some None s e a = absurd (false≢true e)
 agreed_some (Some u) s e a =
     let stops = a 0 (omega arith) u refl in
@@ -38,7 +38,7 @@ agreed_some (Some u) s e a =
     let inputs = a 2 (omega arith) u refl in
     λ i. Some (record { stops = stops i; states = states i; inputs = inputs i })
 
-pub keeps_push : (held : Option Sizes) (s : Sizes) (ts : List Train) (t : Train) → is_some held ≡ ltb 0 (length ts) → ((i : ℕ) → i < 3 → (u : Sizes) → held ≡ Some u → size_at_lem i u ≡ size_at_lem i s) → GoodSizes s → GoodTrain s t → Keeps held ts → Keeps (Some s) (ts ++ (t ∷ []))
+pub keeps_push : (held : Option Sizes) (s : Sizes) (ts : List Train) (t : Train) → is_some held ≡ ltb 0 (length ts) → ((i : ℕ) → i < 3 → (u : Sizes) → held ≡ Some u → size_at i u ≡ size_at i s) → GoodSizes s → GoodTrain s t → Keeps held ts → Keeps (Some s) (ts ++ (t ∷ []))
 keeps_push held s [] t e a g h k = (g, (h, tt))
 keeps_push held s (u ∷ us) t e a g h k =
     let same = agreed_some held s (e ∙ lt-ltb 0 (suc (length us)) (omega arith)) a in

@@ -10,7 +10,7 @@ use Rattle.feed_types.specs.declared.types.Sizes.{Sizes}
 use Rattle.feed_types.specs.declared.types.Train.{Train}
 use Rattle.feed_types.specs.Books.{at}
 use Rattle.feed_types.specs.Limits.{GoodSizes}
-use Rattle.feed_types.specs.Reading.{Starts, key_at, size_at_lem}
+use Rattle.feed_types.specs.Reading.{Starts, key_at, size_at}
 use Rattle.feed_types.specs.Text.{Feed, Good, header, block, line, lines, run_on}
 use Rattle.feed_types.specs.Tokens.{spelt}
 use Rattle.feed_theory.proofs.BlockLines.{run_on_append, same_from_line}
@@ -42,7 +42,7 @@ header_starts bs i s rest g h e = record {
   whole = e ∙ ap (λ (l : List (List ℕ)). run_on l ++ rest) (sym (lines_header (bare s) i h));
 }
 
-pub header_line : (f : Feed) (i : ℕ) → i < 3 → get_or (lines f) i [] ≡ line (spelt (key_at i)) (decimal (size_at_lem i f.sizes))
+pub header_line : (f : Feed) (i : ℕ) → i < 3 → get_or (lines f) i [] ≡ line (spelt (key_at i)) (decimal (size_at i f.sizes))
 unfolding lines header
 header_line f zero h = refl
 header_line f (suc zero) h = refl
@@ -130,12 +130,12 @@ block_front f j i h k =
     ap (λ (n : ℕ). drop (3 + 6 * j) (take n (lines f))) (omega arith) ∙ drop-take (3 + 6 * j) i (lines f) ∙ ap (take i) rest.1 ∙ take-append-le i (block f.sizes (at f.trains j)) rest.0 (omega (arith, block_long f.sizes (at f.trains j)))
 
 -- what the first lines tell
-pub same_size : (k i : ℕ) (f g : Feed) → Good f → Good g → take k (lines f) ≡ take k (lines g) → i < k → i < 3 → size_at_lem i f.sizes ≡ size_at_lem i g.sizes
+pub same_size : (k i : ℕ) (f g : Feed) → Good f → Good g → take k (lines f) ≡ take k (lines g) → i < k → i < 3 → size_at i f.sizes ≡ size_at i g.sizes
 same_size k i f g gf gg e lt h =
-    decimal_injective (size_at_lem i f.sizes) (size_at_lem i g.sizes) (small f i gf h) (small g i gg h)
+    decimal_injective (size_at i f.sizes) (size_at i g.sizes) (small f i gf h) (small g i gg h)
     (same_from_line (spelt (key_at i)) _ _ (sym (header_line f i h) ∙ sym (get_or-take k (lines f) i [] lt) ∙ ap (λ (l : List (List ℕ)). get_or l i []) e ∙ get_or-take k (lines g) i [] lt ∙ header_line g i h))
   where
-    small : (x : Feed) (n : ℕ) → Good x → n < 3 → size_at_lem n x.sizes < 2 ^ 64
+    small : (x : Feed) (n : ℕ) → Good x → n < 3 → size_at n x.sizes < 2 ^ 64
     small x zero gx l = omega (arith, gx.sizes.stops.1)
     small x (suc zero) gx l = omega (arith, gx.sizes.states.1)
     small x (suc (suc n)) gx l = omega (arith, gx.sizes.inputs.1)

@@ -17,13 +17,13 @@ use Rattle.feed_types.specs.declared.types.Sizes.{Sizes}
 use Rattle.feed_types.specs.declared.types.Train.{Train}
 use Rattle.feed_types.specs.Fields.{BadLine, Counts}
 use Rattle.feed_types.specs.Limits.{GoodSizes, GoodTrain}
-use Rattle.feed_types.specs.Reading.{block_keys, size_at_lem}
+use Rattle.feed_types.specs.Reading.{block_keys, size_at}
 use Rattle.feed_types.specs.Text.{header, block, line, run_on}
 use Rattle.feed_types.specs.Tokens.{spelt, InFeed, LineAt}
 
 -- size k of a book that has sizes is n
 abbrev pub IsHeld : Option Sizes → ℕ → ℕ → Type 0
-IsHeld held k n = (s : Sizes) → held ≡ Some s → size_at_lem k s ≡ n
+IsHeld held k n = (s : Sizes) → held ≡ Some s → size_at k s ≡ n
 
 pub record ReadSize (bs : List ℕ) (p : Place) (k : Key) (i most : ℕ) (held : Option Sizes) (n : ℕ) (q : Place) : Type 0 where
   pub low : 1 ≤ n
@@ -39,7 +39,7 @@ pub record NotHeld (k : Key) (i most : ℕ) (held : Option Sizes) (rest : List �
   pub begins : rest ≡ line (spelt k) (decimal size) ++ more
   pub sizes : Sizes
   pub has : held ≡ Some sizes
-  pub differs : size_at_lem i sizes ≢ size
+  pub differs : size_at i sizes ≢ size
 
 abbrev pub BadSize : Key → ℕ → ℕ → Option Sizes → List ℕ → ℕ → FeedFault → Type 0
 BadSize k i most held rest n TooLong = ⊥
@@ -51,7 +51,7 @@ BadSize k i most held rest n (BookFull m) = ⊥
 
 pub record ReadHeader (bs : List ℕ) (held : Option Sizes) (s : Sizes) (q : Place) : Type 0 where
   pub good : GoodSizes s
-  pub agrees : (i : ℕ) → i < 3 → IsHeld held i (size_at_lem i s)
+  pub agrees : (i : ℕ) → i < 3 → IsHeld held i (size_at i s)
   pub whole : bs ≡ run_on (header s) ++ drop q.at bs
   pub number : q.line ≡ 4
   pub next : InFeed bs q

@@ -3,7 +3,7 @@
 --   Register             what a book holds: sizes, if it has any, and trains by slot
 --   key_at k             the key of line k, counting lines from 0
 --   MayEnd k             a feed may end before line k: after its header, or after a whole block
---   size_at_lem k s      the size that line k of a header gives
+--   size_at k s          the size that line k of a header gives
 --   Agrees b k s         size k of s is the book's, where the book has sizes; Agreed b s: all three are
 --   Starts bs k f rest   the first k lines of bs are those of the good feed f, and rest follows them
 --   Before b k f         nothing refuses the first k lines of f: their sizes agree with the book, and the trains of their blocks join it
@@ -38,13 +38,13 @@ key_at k = cond (nat_lt k 3) (slice_index_or header_keys k key.Aim) (slice_index
 abbrev pub MayEnd : ℕ → Type 0
 MayEnd k = (3 ≤ k) × ((k - 3) % 6 ≡ 0)
 
-abbrev pub size_at_lem : ℕ → Sizes → ℕ
-size_at_lem zero s = s.stops
-size_at_lem (suc zero) s = s.states
-size_at_lem (suc (suc k)) s = s.inputs
+abbrev pub size_at : ℕ → Sizes → ℕ
+size_at zero s = s.stops
+size_at (suc zero) s = s.states
+size_at (suc (suc k)) s = s.inputs
 
 abbrev pub Agrees : Register → ℕ → Sizes → Type 0
-Agrees b k s = (held : Sizes) → b.sizes ≡ Some held → size_at_lem k held ≡ size_at_lem k s
+Agrees b k s = (held : Sizes) → b.sizes ≡ Some held → size_at k held ≡ size_at k s
 
 -- all three sizes agree
 abbrev pub Agreed : Register → Sizes → Type 0
@@ -90,7 +90,7 @@ pub record HasOtherSize (bs : List ℕ) (b : Register) (k : ℕ) : Type 0 where
   pub of_header : k < 3
   pub held : Sizes
   pub has : b.sizes ≡ Some held
-  pub differs : size_at_lem k held ≢ size_at_lem k feed.sizes
+  pub differs : size_at k held ≢ size_at k feed.sizes
 
 -- the blocks before block j join the book, which then holds `after`, and block j ends with line k
 pub record AtBlock (bs : List ℕ) (b : Register) (k j : ℕ) : Type 0 where
