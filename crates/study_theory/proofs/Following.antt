@@ -4,15 +4,16 @@
 use Rattle.std.proofs.Common.{◌≡◌, ℕ, zero, suc, ◌+◌, ◌-◌, ◌*◌, ◌<◌, ◌≤◌, ◌≢◌, List, length, get_or, sym, refl, ap, ◌∙◌, subst, ap₂, mul-le-mul_right, suc-mul, arith}
 use native.Mathlib.Decide.{ℕ_discrete}
 use Rattle.algebra.specs.Field.{OrderedField}
-use Rattle.control.specs.Elimination.{later_by, gap_by, fill_by}
+use Rattle.control.specs.Elimination.{later_by, gap_by, fill_by, fill}
 use Rattle.control.specs.Line.{Line, width, state, stacked, next, stage_cost, lateness}
 use Rattle.control.specs.Line as line
 use Rattle.control.specs.Matrix.{sum, form, join, put}
 use Rattle.control.specs.Plan.{plan, solve}
-use Rattle.control.specs.Recursion.{P, factor, pivot, value, gap, stop_excess}
+use Rattle.control.specs.Recursion.{P, M, factor, pivot, value, gap, stop_excess}
 use Rattle.control.specs.Recursion as recursion
 use Rattle.control.proofs.Accounts.{lateness_ext}
 use Rattle.control.proofs.Forms.{form_ext}
+use Rattle.control.proofs.Gaps.{fill_is_by}
 use Rattle.control.proofs.Lists.{join_ext, put_same, put_other}
 use Rattle.control.proofs.Stops.{next_stacked, stage_stacked, gap_stacked}
 use Rattle.control.proofs.Sums.{sum_ext}
@@ -81,7 +82,7 @@ module _ {A : Type 0} (N : Ghosts A) (laws : Laws N) (m : Meaning A) where
 
   pub solve_same : (n : ℕ) (x y : ℕ → Car) → ((j : ℕ) → j < nx → x j ≡ y j) → solve L n (λ _. 𝟘) x ≡ solve L n (λ _. 𝟘) y
   unfolding solve
-  solve_same n x y k = ap (fill_by (field N) (width L) (factor L n) (λ _. 𝟘) nu) (stacked_same (λ _. 𝟘) (λ _. 𝟘) x y (λ i l. refl) k)
+  solve_same n x y k = ap (fill (field N) (width L) (M L n) (λ _. 𝟘) nu) (stacked_same (λ _. 𝟘) (λ _. 𝟘) x y (λ i l. refl) k)
 
   -- what the trail says is paid is the confirmed cost
   pub paid_is : (trail : List Parts) (a : Account Car) → Follows trail a → paid_at_lem N s m trail a.stop ≡ confirmed_cost N m a
@@ -105,7 +106,9 @@ module _ {A : Type 0} (N : Ghosts A) (laws : Laws N) (m : Meaning A) where
 
     pub plan_is : (n : ℕ) (x : ℕ → Car) → n < end → planned N s (gains_at N s gains n) x ≡ solve L n (λ _. 𝟘) x
     unfolding solve
-    plan_is n x l = fill_same (field N) (width L) _ (factor L n) (λ _. 𝟘) nu _ (λ i c p q t. factor_is n i c l p q t)
+    plan_is n x l =
+        fill_same (field N) (width L) _ (factor L n) (λ _. 𝟘) nu _ (λ i c p q t. factor_is n i c l p q t)
+        ∙ sym (fill_is_by (field N) (width L) (M L n) (λ _. 𝟘) nu _)
 
     gaps_is : (trail : List Parts) (n i : ℕ) → n < end → i < nu → gap_at N s gains trail n i ≡ gap L n i (u_at N s trail n) (x_at N s trail n)
     unfolding gap
