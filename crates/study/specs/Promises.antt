@@ -4,7 +4,7 @@
 --   WeighPromise, BeginPromise, ProposePromise, ConfirmPromise      of the study, the sheets before and after, and the answer
 --   AnswerPromise s c y r    a question that makes the checks c answers the number y, or refuses
 --   ClosePromise u r         a close at the last stop gives the study back weighed
-use Rattle.std.specs.Prelude.{◌≡◌, ℕ, suc, List, length, Result, MatchResult}
+use Rattle.std.specs.Prelude.{◌≡◌, suc, List, length, Result, MatchResult}
 use Rattle.numbers.specs.declared.Number.{Ghosts}
 use Rattle.numbers.specs.declared.Parts.{Parts}
 use Rattle.lines.specs.Meaning.{Meaning}

@@ -48,8 +48,8 @@ pub trait Work {
         trail: &mut [Parts],
     ) -> Result<Standing, StudyFault>
         ensures { MatchResult result
-            (λ a. (a.sizes ≡ at.sizes) × (a.stop ≡ suc at.stop) × ConfirmGranted N.Number.Number (shape at.sizes) (L.Line.meaning line.now) at.stop made.now trail.old trail.new)
-            (λ e. RefusedWith N.Number.Number (confirm_checks N.Number.Number (shape at.sizes) (L.Line.meaning line.now) at.stop made.now trail.old) (refusal e) × (trail.new ≡ trail.old)) };
+            (λ a. (a.sizes ≡ at.sizes) × (a.stop ≡ suc at.stop) × ConfirmGranted L.Number.Number (shape at.sizes) (L.Line.meaning line.now) at.stop made.now trail.old trail.new)
+            (λ e. RefusedWith L.Number.Number (confirm_checks L.Number.Number (shape at.sizes) (L.Line.meaning line.now) at.stop made.now trail.old) (refusal e) × (trail.new ≡ trail.old)) };
 
     fn paid_at<L: Line>(at: Standing, line: &L, trail: &[Parts]) -> Result<L::Number, StudyFault>
         ensures { MatchResult result

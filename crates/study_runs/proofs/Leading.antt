@@ -1,5 +1,5 @@
 -- How each call, granted or refused, goes on a run. Assumes nothing.
-use Rattle.std.proofs.Common.{◌≡◌, ◌⊎◌, List, Ok, Err, Result, sym, refl, ap, ◌∙◌, subst, inl, inr, MatchResult}
+use Rattle.std.proofs.Common.{◌≡◌, List, Ok, Err, Result, sym, refl, subst, inl, inr, MatchResult}
 use Rattle.numbers.specs.declared.Number.{Ghosts}
 use Rattle.numbers.specs.declared.Parts.{Parts}
 use Rattle.lines.specs.Meaning.{Meaning}
@@ -15,7 +15,7 @@ use Rattle.study_runs.specs.declared.commands.Command.{Command}
 use Rattle.study_runs.specs.declared.answers.Answer.{Answer}
 use Rattle.study_runs.specs.declared.answers.Answer.TheVariants.{Told, Refused, NotNow}
 use Rattle.study_runs.specs.Telling.{Makes, Tells, name_of}
-use Rattle.study_runs.specs.Performing.{Steps, Skips}
+use Rattle.study_runs.specs.Performing.{Steps}
 use Rattle.study_runs.specs.Going.{world, Goes}
 
 module _ {A : Type 0} (N : Ghosts A) (m : Meaning A) where

@@ -1,7 +1,7 @@
 -- Which commands a stage allows. Assumes nothing.
 --
 --   Verb                the ten calls, by name
-use Rattle.std.proofs.Common.{◌≡◌, ℕ, ◌⊎◌, List, Vec, sym, refl, ap, ◌∙◌, inl, inr, arith}
+use Rattle.std.proofs.Common.{◌≡◌, ℕ, ◌⊎◌, Vec, sym, refl, ap, ◌∙◌, inl, inr, arith}
 use Rattle.std.specs.declared.alloc.Global.{Global}
 use Rattle.numbers.specs.declared.Parts.{Parts}
 use Rattle.study_terms.specs.Shapes.{Shape}

@@ -40,7 +40,7 @@ fn from_new<W: Work, L: Line>(
     }
 }
 
-fn from_weighed<W: Work, L: Line>(
+fn from_weighed<L: Line>(
     study: Weighed<L::Number>,
     line: &L,
     command: &Command,
@@ -50,7 +50,7 @@ fn from_weighed<W: Work, L: Line>(
     ensures { Goes L.Number.Number (L.Line.meaning line.now) command.now result.1 (weighed_stage study) (stage_of result.0) gains.now gains.now trail.old trail.new }
 {
     match command {
-        Command::Begin(start) => match study.begin::<W>(start.as_slice(), trail) {
+        Command::Begin(start) => match study.begin(start.as_slice(), trail) {
             Ok(underway) => {
                 let at = underway.standing();
                 let lateness = lateness_at(at, trail);
@@ -77,7 +77,7 @@ fn told<N>(answer: Result<N, StudyFault>) -> Answer<N>
     }
 }
 
-fn from_underway<W: Work, L: Line>(
+fn from_underway<L: Line>(
     study: Underway<L::Number>,
     line: &L,
     command: &Command,
@@ -89,7 +89,7 @@ fn from_underway<W: Work, L: Line>(
     ensures { Goes L.Number.Number (L.Line.meaning line.now) command.now result.1 (underway_stage study) (stage_of result.0) gains.now gains.now trail.now trail.now }
 {
     match command {
-        Command::Propose => match study.propose::<W>(gains, trail, slip) {
+        Command::Propose => match study.propose(gains, trail, slip) {
             Ok(ordered) => (
                 Study::Ordered(ordered),
                 Answer::Planned(few_from(slip, 0, slip.len())),
@@ -97,15 +97,15 @@ fn from_underway<W: Work, L: Line>(
             Err(refused) => (Study::Underway(refused.0), Answer::Refused(refused.1)),
         },
         Command::Paid => {
-            let answer = told(study.paid::<W, L>(line, trail));
+            let answer = told(study.paid::<L>(line, trail));
             (Study::Underway(study), answer)
         }
         Command::Rest => {
-            let answer = told(study.rest::<W>(gains, trail));
+            let answer = told(study.rest(gains, trail));
             (Study::Underway(study), answer)
         }
         Command::Excess => {
-            let answer = told(study.excess::<W>(gains, trail));
+            let answer = told(study.excess(gains, trail));
             (Study::Underway(study), answer)
         }
         Command::Abandon => (Study::Weighed(study.abandon()), Answer::Ended),
@@ -117,7 +117,7 @@ fn from_underway<W: Work, L: Line>(
     }
 }
 
-fn from_ordered<W: Work, L: Line>(
+fn from_ordered<L: Line>(
     study: Ordered<L::Number>,
     line: &L,
     command: &Command,
@@ -127,7 +127,7 @@ fn from_ordered<W: Work, L: Line>(
     ensures { Goes L.Number.Number (L.Line.meaning line.now) command.now result.1 (ordered_stage study) (stage_of result.0) gains.now gains.now trail.old trail.new }
 {
     match command {
-        Command::Confirm(made) => match study.confirm::<W, L>(line, made.as_slice(), trail) {
+        Command::Confirm(made) => match study.confirm::<L>(line, made.as_slice(), trail) {
             Ok(underway) => {
                 let at = underway.standing();
                 let lateness = lateness_at(at, trail);
@@ -172,9 +172,9 @@ pub(super) fn perform_one<W: Work, L: Line>(
 {
     match study {
         Study::New(study) => from_new::<W, L>(study, line, command, gains, scratch, trail),
-        Study::Weighed(study) => from_weighed::<W, L>(study, line, command, gains, trail),
-        Study::Underway(study) => from_underway::<W, L>(study, line, command, gains, trail, slip),
-        Study::Ordered(study) => from_ordered::<W, L>(study, line, command, gains, trail),
+        Study::Weighed(study) => from_weighed::<L>(study, line, command, gains, trail),
+        Study::Underway(study) => from_underway::<L>(study, line, command, gains, trail, slip),
+        Study::Ordered(study) => from_ordered::<L>(study, line, command, gains, trail),
     }
 }
 

@@ -15,7 +15,7 @@ use Rattle.control.proofs.Sums.{sum_ext, sum_split}
 use Rattle.numbers.specs.declared.Number.{Ghosts}
 use Rattle.numbers.specs.declared.Parts.{Parts}
 use Rattle.study_terms.specs.Calls.{later_formula, plan_formula, gap_formula, planned, gap_at, square_formula, excess_formula, excess_at_lem}
-use Rattle.study_terms.specs.Formulas.{field, Formula, known, exact}
+use Rattle.study_terms.specs.Formulas.{field, known, exact}
 use Rattle.study_terms.specs.Shapes.{Shape, width}
 use Rattle.study_terms.proofs.FormNumbers.{sums_exact}
 use Rattle.study_terms.specs.Sheets.{gains_at, x_at, u_at, state_list, stacked_list}

@@ -1,8 +1,8 @@
 -- What the rows of a kind mean. Assumes nothing.
 --
 --   Laws N              what every kind of number keeps, of its values and rows
-use Rattle.std.proofs.Common.{◌≡◌, ℕ, suc, ◌<◌, ◌≤◌, ℤ, pos, negsuc, nat_abs, ◌<ℤ◌, sym, refl, ap, ◌∙◌, ap₂, arith, lit≤}
-use Rattle.algebra.specs.Exact.{Exact, exact, zero_e, whole_e}
+use Rattle.std.proofs.Common.{◌≡◌, ◌≤◌, ℤ, pos, negsuc, nat_abs, ◌<ℤ◌, sym, refl, ap, ◌∙◌, ap₂, arith, lit≤}
+use Rattle.algebra.specs.Exact.{Exact, zero_e, whole_e}
 use Rattle.algebra.specs.Laws.{LowestParts}
 use Rattle.algebra.proofs.Lowest.{lowest_parts_unique}
 use Rattle.algebra.proofs.Triples.{exact_zero}

@@ -24,7 +24,7 @@ use Rattle.study_terms.specs.Checks.{Checks, test, number, each, ◌then◌, Pas
 use Rattle.study_terms.specs.Formulas.{field, Formula, known, asked, plus, minus, times, sums, exact}
 use Rattle.study_terms.specs.Refusals.{bare}
 use Rattle.study_terms.specs.Shapes.{Shape, shape_of, same_shape, width, gains_need, trail_need}
-use Rattle.study_terms.specs.Sheets.{blank, zero_row, at, Written, exact_line, gains_place, value_place_lem, x_place, u_place, gains_at, value_at, x_at, u_at, state_list, stacked_list, Surplus}
+use Rattle.study_terms.specs.Sheets.{blank, zero_row, at, Written, exact_line, x_place, u_place, gains_at, value_at, x_at, u_at, state_list, stacked_list, Surplus}
 
 module _ {A : Type 0} (N : Ghosts A) where
   infixl 60 ◌⊕◌

@@ -21,7 +21,7 @@ use Rattle.control.specs.Recursion.{P, pivot, factor}
 use Rattle.numbers.specs.declared.Number.{Ghosts}
 use Rattle.numbers.specs.declared.Parts.{Parts}
 use Rattle.lines.specs.Meaning.{Meaning, line_of}
-use Rattle.study_terms.specs.Formulas.{field, NumberOf}
+use Rattle.study_terms.specs.Formulas.{field}
 use Rattle.study_terms.specs.Shapes.{Shape, shape_of, width}
 
 abbrev pub blank : Parts

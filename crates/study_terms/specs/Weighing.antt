@@ -12,7 +12,7 @@
 --   weigh_checks m g h  the tests and then the steps
 --   WeighGranted ..    the line is weighed: the gains sheet has its numbers, the scratch sheet is zero, and no surplus is written
 --   WeighRefused ..    a test refuses and nothing is written, or a step refuses and what both sheets need is zero
-use Rattle.std.specs.Prelude.{◌≡◌, ℕ, suc, ◌+◌, ◌-◌, List, length, nat_le}
+use Rattle.std.specs.Prelude.{◌≡◌, ℕ, suc, ◌-◌, List, length, nat_le}
 use Rattle.control.specs.Recursion.{P, T, reduced_M, pivot, factor}
 use Rattle.numbers.specs.declared.Number.{Ghosts}
 use Rattle.numbers.specs.declared.Parts.{Parts}
@@ -21,7 +21,7 @@ use Rattle.study_terms.specs.Checks.{Checks, none, test, number, each, ◌then�
 use Rattle.study_terms.specs.Checks as checks
 use Rattle.study_terms.specs.Formulas.{field, Formula, known, asked, minus, times, over, sums}
 use Rattle.study_terms.specs.Refusals.{Refusal, bare, large_refusal}
-use Rattle.study_terms.specs.Shapes.{Shape, shape_of, in_limits, width, gains_need, scratch_need}
+use Rattle.study_terms.specs.Shapes.{shape_of, in_limits, width, gains_need, scratch_need}
 use Rattle.study_terms.specs.Sheets.{exact_line, Cleared, Surplus, Gains}
 
 module _ {A : Type 0} (N : Ghosts A) (m : Meaning A) where

@@ -1,16 +1,14 @@
 -- A trail that follows an account: its lateness, its adjustments, and so what is paid and what is in excess. Assumes nothing.
 --
 --   Follows trail a     the trail has the lateness of the account a at each stop up to its own, and the adjustments made before it
-use Rattle.std.proofs.Common.{◌≡◌, ℕ, zero, suc, ◌+◌, ◌-◌, ◌*◌, ◌<◌, ◌≤◌, ◌≢◌, List, length, get_or, sym, refl, ap, ◌∙◌, subst, ap₂, mul-le-mul_right, suc-mul, arith}
+use Rattle.std.proofs.Common.{◌≡◌, ℕ, zero, suc, ◌+◌, ◌-◌, ◌*◌, ◌<◌, ◌≤◌, ◌≢◌, List, sym, refl, ap, ◌∙◌, subst, ap₂, mul-le-mul_right, suc-mul, arith}
 use native.Mathlib.Decide.{ℕ_discrete}
 use Rattle.algebra.specs.Field.{OrderedField}
 use Rattle.control.specs.Elimination.{later_by, gap_by, fill_by, fill}
 use Rattle.control.specs.Line.{Line, width, state, stacked, next, stage_cost, lateness}
-use Rattle.control.specs.Line as line
 use Rattle.control.specs.Matrix.{sum, form, join, put}
-use Rattle.control.specs.Plan.{plan, solve}
+use Rattle.control.specs.Plan.{solve}
 use Rattle.control.specs.Recursion.{P, M, factor, pivot, value, gap, stop_excess}
-use Rattle.control.specs.Recursion as recursion
 use Rattle.control.proofs.Accounts.{lateness_ext}
 use Rattle.control.proofs.Forms.{form_ext}
 use Rattle.control.proofs.Gaps.{fill_is_by}
@@ -22,11 +20,11 @@ use Rattle.numbers.specs.declared.Parts.{Parts}
 use Rattle.lines.specs.Meaning.{Meaning}
 use Rattle.study_terms.specs.Shapes.{Shape, shape_of}
 use Rattle.study_terms.specs.Formulas.{field}
-use Rattle.study_terms.specs.Sheets.{blank, at, Written, exact_line, gains_place, value_place_lem, x_place, u_place, gains_at, value_at, x_at, u_at, Gains}
+use Rattle.study_terms.specs.Sheets.{at, exact_line, x_place, u_place, gains_at, x_at, u_at, Gains}
 use Rattle.study_terms.specs.Calls.{planned, paid_at_lem, rest_at, excess_at_lem, gap_at, BeginGranted, ConfirmGranted}
 use Rattle.study_terms.proofs.KindRows.{Laws, written_reads}
 use Rattle.study_theory.specs.Runs.{Account, confirmed, begun}
-use Rattle.study_theory.specs.Law.{late, confirmed_cost, confirmed_excess}
+use Rattle.study_theory.specs.Law.{confirmed_cost, confirmed_excess}
 
 -- equal factors make equal lists without gaps
 module _ (K : OrderedField) (w : ℕ) (r q : ℕ → ℕ → K.Car) where

@@ -1,18 +1,17 @@
 -- What every step keeps, and so every run. Assumes nothing.
 --
 --   Inv v               where a study stands in a run: what holds of its gains sheet, its trail and its ledger at each stage
-use Rattle.std.proofs.Common.{◌≡◌, ℕ, zero, suc, ◌+◌, ◌<◌, ◌≤◌, not, T, eqb, ◌≢◌, ◌⊎◌, List, [], ◌∷◌, sym, refl, ap, ◌∙◌, subst, ap₂, inl, inr, arith, eq-eqb}
+use Rattle.std.proofs.Common.{◌≡◌, ℕ, suc, ◌<◌, ◌≤◌, not, T, eqb, ◌≢◌, List, refl, ap, subst, ap₂, arith, eq-eqb}
 use Rattle.control.specs.Line.{Line}
 use Rattle.control.specs.Recursion.{PositivePivots}
 use Rattle.numbers.specs.declared.Number.{Ghosts}
-use Rattle.numbers.specs.declared.Parts.{Parts}
 use Rattle.lines.specs.Meaning.{Meaning}
 use Rattle.study_terms.specs.Shapes.{Shape, shape_of}
 use Rattle.study_terms.specs.Formulas.{field}
 use Rattle.study_terms.specs.Sheets.{at, exact_line, Gains}
 use Rattle.study_terms.specs.Calls.{BeginGranted, ConfirmGranted}
 use Rattle.study_terms.proofs.KindRows.{Laws}
-use Rattle.study_theory.specs.Runs.{Stage, new, weighed, underway, ordered, Account, begun, confirmed, Ledger, empty, entered, extended, Call, Reply, World, Step, weighs, begins, proposes, confirms, withdraws, tells_paid, tells_rest, tells_excess, abandons, closes, refuses_weigh, refuses, Run, fresh, step}
+use Rattle.study_theory.specs.Runs.{new, weighed, underway, ordered, Account, begun, confirmed, empty, entered, extended, Call, Reply, World, Step, weighs, begins, proposes, confirms, withdraws, tells_paid, tells_rest, tells_excess, abandons, closes, refuses_weigh, refuses, Run, fresh, step}
 use Rattle.study_theory.proofs.Pivots.{positive_pivots}
 use Rattle.study_theory.proofs.Following.{Follows, follows_begin, follows_confirm}
 

@@ -1,9 +1,9 @@
 -- The law over the runs of a study. Assumes nothing.
-use Rattle.std.proofs.Common.{◌≡◌, ℕ, suc, ◌+◌, ◌<◌, ◌≤◌, ◌≢◌, ◌⊎◌, List, length, ℤ, Option, sym, refl, ap, ◌∙◌, subst, ap₂, inl, inr, arith}
-use Rattle.control.specs.Line.{Line, Lawful, lateness}
+use Rattle.std.proofs.Common.{◌≡◌, ℕ, ◌+◌, ◌<◌, ◌≤◌, ◌≢◌, ◌⊎◌, List, length, ℤ, Option, sym, ap, ◌∙◌, subst, ap₂, inl, inr, arith}
+use Rattle.control.specs.Line.{Line, Lawful}
 use Rattle.control.specs.Recursion.{value, PositivePivots}
 use Rattle.control.specs.Plan.{plan, solve}
-use Rattle.control.specs.Optimality.{Cheapest, LeastCost}
+use Rattle.control.specs.Optimality.{LeastCost}
 use Rattle.control.proofs.Plans.{best_plan_lem, least_account}
 use Rattle.numbers.specs.declared.Number.{Ghosts}
 use Rattle.numbers.specs.declared.Parts.{Parts}
@@ -15,16 +15,16 @@ use Rattle.study_terms.specs.Shapes.{Shape, shape_of}
 use Rattle.study_terms.specs.Refusals.{refusal}
 use Rattle.study_terms.specs.Formulas.{field}
 use Rattle.study_terms.specs.Checks.{Checks, Passes, RefusedWith}
-use Rattle.study_terms.specs.Sheets.{at, exact_line, gains_at, x_at, Gains}
+use Rattle.study_terms.specs.Sheets.{at, exact_line, gains_at, x_at}
 use Rattle.study_terms.specs.Weighing.{by_a_test, by_a_step, WeighRefused, weigh_checks}
 use Rattle.study_terms.specs.Calls.{planned, paid_at_lem, rest_at, excess_at_lem, begin_checks, propose_checks, confirm_checks, paid_checks, rest_checks, excess_checks, close_checks}
 use Rattle.study_terms.proofs.KindRows.{Laws, written_reads}
-use Rattle.study_theory.specs.Runs.{Stage, new, weighed, underway, ordered, Account, Ledger, empty, entered, Call, propose, paid, rest, excess, Reply, done, told, wrote, refused, World, Asks, asks_weigh, asks_begin, asks_propose, asks_confirm, asks_withdraw, asks_paid, asks_rest, asks_excess, asks_abandon, asks_close, Step, weighs, begins, proposes, confirms, withdraws, tells_paid, tells_rest, tells_excess, abandons, closes, refuses_weigh, refuses, Run}
-use Rattle.study_theory.specs.Law.{Granted, Decided, late, confirmed_cost, confirmed_excess, AccountLaw, WorldLaw, StudyLaw}
+use Rattle.study_theory.specs.Runs.{new, weighed, underway, ordered, Account, empty, entered, Call, propose, paid, rest, excess, Reply, told, wrote, refused, World, Asks, asks_weigh, asks_begin, asks_propose, asks_confirm, asks_withdraw, asks_paid, asks_rest, asks_excess, asks_abandon, asks_close, Step, weighs, begins, proposes, confirms, withdraws, tells_paid, tells_rest, tells_excess, abandons, closes, refuses_weigh, refuses}
+use Rattle.study_theory.specs.Law.{Granted, late, confirmed_cost, confirmed_excess, AccountLaw, WorldLaw, StudyLaw}
 use Rattle.study_theory.proofs.Outcomes.{not_both_ways, one_refusal, either_way}
 use Rattle.study_theory.proofs.Pivots.{accepts}
-use Rattle.study_theory.proofs.Following.{Follows, value_same, solve_same, paid_is, rest_is, plan_is, excess_is}
-use Rattle.study_theory.proofs.Keeping.{not_end, Inv, is_new, is_weighed, is_underway, is_ordered, WeighedSo, EnteredSo, from_weighed_lem, from_underway_lem, run_keeps}
+use Rattle.study_theory.proofs.Following.{value_same, solve_same, paid_is, rest_is, plan_is, excess_is}
+use Rattle.study_theory.proofs.Keeping.{not_end, Inv, is_new, is_weighed, is_underway, is_ordered, WeighedSo, EnteredSo, from_underway_lem, run_keeps}
 
 module _ {A : Type 0} (N : Ghosts A) (laws : Laws N) (m : Meaning A) where
   infixl 60 ◌⊕◌

@@ -1,8 +1,7 @@
 -- What a weigh that passes, or that is refused for a pivot, says of the pivots of the line. Assumes nothing.
-use Rattle.std.proofs.Common.{◌≡◌, ℕ, suc, ◌-◌, ◌<◌, ◌≤◌, ◌⊎◌, ◌↔◌, List, sym, ap, subst, inl, inr, arith}
+use Rattle.std.proofs.Common.{◌≡◌, ℕ, suc, ◌-◌, ◌<◌, ◌≤◌, sym, ap, subst, inl, inr, arith}
 use Rattle.control.specs.Line.{Line, Lawful}
 use Rattle.control.specs.Recursion.{pivot, PositivePivots, Fails}
-use Rattle.control.specs.Optimality.{Cheapest}
 use Rattle.control.specs.Plan.{plan}
 use Rattle.control.proofs.Plans.{best_plan_lem}
 use Rattle.control.proofs.Decisions.{failing_pivot_lem}

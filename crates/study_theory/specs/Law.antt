@@ -31,7 +31,7 @@ use Rattle.study_terms.specs.Formulas.{field}
 use Rattle.study_terms.specs.Checks.{Checks, Passes, RefusedWith}
 use Rattle.study_terms.specs.Sheets.{at, exact_line, Gains}
 use Rattle.study_terms.specs.Weighing.{weigh_checks}
-use Rattle.study_theory.specs.Runs.{Stage, new, weighed, underway, ordered, Account, Ledger, empty, entered, Call, propose, paid, rest, excess, Reply, done, told, wrote, refused, World, Asks, Step, Run}
+use Rattle.study_theory.specs.Runs.{new, weighed, underway, ordered, Account, empty, entered, Call, propose, paid, rest, excess, Reply, done, told, wrote, refused, World, Asks, Step, Run}
 
 abbrev pub Granted : {A : Type 0} → Reply A → Type 0
 Granted done = Unit {0}

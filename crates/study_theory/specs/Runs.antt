@@ -21,7 +21,7 @@ use Rattle.lines.specs.Meaning.{Meaning}
 use Rattle.study_terms.specs.declared.faults.kinds.StudyFault.{StudyFault}
 use Rattle.study_terms.specs.Shapes.{Shape, shape_of}
 use Rattle.study_terms.specs.Refusals.{refusal}
-use Rattle.study_terms.specs.Formulas.{field, NumberOf}
+use Rattle.study_terms.specs.Formulas.{field}
 use Rattle.study_terms.specs.Checks.{Checks, none, Passes, RefusedWith}
 use Rattle.study_terms.specs.Sheets.{at}
 use Rattle.study_terms.specs.Weighing.{weigh_checks, WeighGranted, WeighRefused}

@@ -1,8 +1,7 @@
-use Rattle.std.proofs.Common.{sym, refl, ◌∙◌, subst, inl, inr}
+use Rattle.std.proofs.Common.{refl, ◌∙◌, inl, inr}
 use Rattle.std.proofs.lemmas.Result.{err_from_is_err_and}
 use Rattle.study_terms.specs.Sized.{shape}
 use Rattle.study_terms.proofs.GapNumbers.{excess_number}
-use Rattle.study_gaps.specs.Answered.{ExcessTold}
 use Rattle.study_gaps.proofs.excess.excess_at.Goals as goal
 
 pub returns-in_err-check_sheets : goal.returns-in_err-check_sheets

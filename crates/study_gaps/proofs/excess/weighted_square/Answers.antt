@@ -1,4 +1,4 @@
-use Rattle.std.proofs.Common.{◌≡◌, ◌+◌, ap, ◌∙◌, inl, inr}
+use Rattle.std.proofs.Common.{◌+◌, ap, ◌∙◌, inl, inr}
 use Rattle.study_terms.specs.declared.faults.kinds.Below.TheVariants.{TooLarge}
 use Rattle.study_terms.specs.Calls.{square_formula}
 use Rattle.study_terms.specs.Formulas.{known, times, exact}

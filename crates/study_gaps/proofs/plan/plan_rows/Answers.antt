@@ -1,5 +1,4 @@
-use Rattle.std.proofs.Common.{◌≡◌, ℕ, suc, ◌-◌, set, Ok, Err, sym, refl, subst, arith}
-use Rattle.numbers.specs.declared.Parts.{Parts}
+use Rattle.std.proofs.Common.{◌≡◌, suc, ◌-◌, set, Ok, Err, sym, refl, subst, arith}
 use Rattle.study_terms.proofs.KindRows.{Laws}
 use Rattle.study_gaps.proofs.Planning.{WorkedFrom, worked_none, worked_more, worked_all, worked_refused, next_number_lem}
 use Rattle.study_gaps.proofs.plan.plan_rows.Given as given

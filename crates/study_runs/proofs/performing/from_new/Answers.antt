@@ -1,4 +1,4 @@
-use Rattle.std.proofs.Common.{◌≡◌, List, sym, refl}
+use Rattle.std.proofs.Common.{refl}
 use Rattle.study_theory.specs.Runs.{weighs, refuses_weigh}
 use Rattle.study_theory.specs.Runs as runs
 use Rattle.study_terms.specs.Shapes.{shape_of}

@@ -1,4 +1,4 @@
-use Rattle.std.proofs.Common.{◌≡◌, ◌+◌, length, get_or, sym, refl, ap, ◌∙◌, subst, arith}
+use Rattle.std.proofs.Common.{◌≡◌, ◌+◌, length, get_or, refl, ap, ◌∙◌, arith}
 use Rattle.study_theory.specs.Runs.{proposes, tells_paid, tells_rest, tells_excess, abandons, closes, asks_propose, asks_paid, asks_rest, asks_excess, asks_close}
 use Rattle.study_theory.specs.Runs as runs
 use Rattle.study_terms.specs.Sized.{shape}

@@ -1,4 +1,4 @@
-use Rattle.std.proofs.Common.{◌≡◌, ℕ, suc, ◌+◌, ◌<◌, ◌≤◌, List, [], ◌∷◌, ◌++◌, length, get_or, take, vec_items, vec_len, sym, refl, ap, ◌∙◌, subst, arith, take_all, take-suc}
+use Rattle.std.proofs.Common.{◌≡◌, suc, ◌+◌, ◌<◌, ◌≤◌, [], ◌∷◌, ◌++◌, length, take, vec_items, vec_len, sym, ap, ◌∙◌, subst, arith, take_all, take-suc}
 use Rattle.study_theory.specs.Runs.{empty}
 use Rattle.study_runs.specs.declared.commands.Command.{Command}
 use Rattle.study_runs.specs.Performing.{Performed, started}
