@@ -8,7 +8,7 @@ ghost use Rattle.numbers.specs.Fractions.{fraction_reading, fraction_row, fracti
 ghost use Rattle.numbers.specs.Rows.{row_number};
 ghost use Rattle.numbers.specs.FractionKind;
 ghost use Rattle.numbers.specs.FractionKind.{written};
-ghost use Rattle.std.proofs.Common.{rules, arith};
+ghost use Rattle.std.proofs.Common.{lit≤};
 
 use crate::rows::{difference, fitted, is_formed, product, sum};
 use crate::words::{times, turned};
@@ -114,7 +114,7 @@ impl Number for Fraction {
 
     ghost reading = { fraction_reading };
 
-    ghost small = { first_of (Prim.search rules, Prim.grind (arith, Self.row.coded.inj)) };
+    ghost small = { lit≤ tt };
 
     ghost same = { FractionKind.same };
 

@@ -7,7 +7,6 @@ ghost use Rattle.numbers.specs.Forms.{Carried, HoldsExactly, RowQuotient, has_fo
 ghost use Rattle.numbers.specs.Roots.{Bounded, root_good, root_reading, root_size};
 ghost use Rattle.numbers.specs.Rows.{row_number};
 ghost use Rattle.numbers.specs.RootKind;
-ghost use Rattle.std.proofs.Common.{rules, arith};
 
 use crate::rows::{difference, fitted, is_formed, product, sum};
 use crate::words::{times, turned, two_products};
@@ -151,7 +150,7 @@ impl<R: Radicand> Number for Root<R> {
 
     ghost reading = { root_reading R.Radicand.radicand };
 
-    ghost small = { first_of (Prim.search rules, Prim.grind (arith, Self.row.coded.inj)) };
+    ghost small = { R.Radicand.small.1 };
 
     ghost same = { RootKind.same _ R.Radicand.radicand R.Radicand.small };
 

@@ -3,7 +3,7 @@ ghost use Rattle.std.specs.Prelude.{◌≡◌, ℕ, pos};
 ghost use Rattle.algebra.proofs.Radicands.{five, three};
 ghost use Rattle.algebra.specs.Exact.{NoSquare};
 ghost use Rattle.numbers.specs.Roots.{Under};
-ghost use Rattle.std.proofs.Common.{rules};
+ghost use Rattle.std.proofs.Common.{lit≤};
 
 // A number from 2 to 99 that is no square. A square divisor, as in 8 or 12, is no hindrance.
 pub trait Radicand {
@@ -28,7 +28,7 @@ impl Radicand for Three {
 
     ghost good = { three };
 
-    ghost small = { Prim.search rules };
+    ghost small = { (lit≤ tt, lit≤ tt) };
 
     fn value() -> i64 {
         Self::D
@@ -44,7 +44,7 @@ impl Radicand for Five {
 
     ghost good = { five };
 
-    ghost small = { Prim.search rules };
+    ghost small = { (lit≤ tt, lit≤ tt) };
 
     fn value() -> i64 {
         Self::D
