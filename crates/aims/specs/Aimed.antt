@@ -1,14 +1,14 @@
 -- The aims, and the line with aims over the line below. Assumes nothing.
 --
---   aim ts n k              the aim of state k at stop n, of the list ts: four for each of the stops 0 to 24, and 0 elsewhere
---   raised l                the level of a layer over a line of level l: one more, but at most 255
+--   aim ts n k                   the aim of state k at stop n, of the list ts: four for each of the stops 0 to 24, and 0 elsewhere
+--   raised l                     the level of a layer over a line of level l: one more, but at most 255
 --   column .. n a last first j   the entry of row a and of the constant's column `last`, less the first j states' entries times their aims;
---                           the states' columns begin at `first`
+--                                the states' columns begin at `first`
 --   corner .. n last first j     the constant's own entry, less (new + old entry of the state and the constant) × aim of the first j states
 --   aims_line value find t b     the line with the aims t over the line b: G's last row and column change, all else is as below
---   Settable b n k v        an aim v may be set at stop n for state k: n is at most N and 24, k is below nx and 4, v is within ±999
---   Replaced ts ts' n k v   the aims ts' are ts with v at stop n, state k
---   aim_fault f             the number of the refusal: 6
+--   Settable b n k v             an aim v may be set at stop n for state k: n is at most N and 24, k is below nx and 4, v is within ±999
+--   Replaced ts ts' n k v        the aims ts' are ts with v at stop n, state k
+--   aim_fault f                  the number of the refusal: 6
 use Rattle.std.specs.Prelude.{◌≡◌, ℕ, zero, suc, ◌+◌, ◌-◌, ◌*◌, ◌<◌, ◌≤◌, min, max, cond, ◌&&◌, ◌≢◌, ◌⊎◌, List, ℤ, pos, Option, ◌==◌, nat_lt, unsigned_abs}
 use Rattle.algebra.specs.Exact.{Exact, add_e}
 use Rattle.lines.specs.Kinds.{entry_of}

@@ -1,8 +1,8 @@
 -- Numbers worked one after the other. `value` and `find` are those of the kind. Assumes nothing.
 --
---   after e f               f of the number that stands in e; a mark ends the work
---   times_whole m k t       the number k times the whole number t, worked at the place of the mark m
---   less m s k t            s − k × t, worked there
+--   after e f           f of the number that stands in e; a mark ends the work
+--   times_whole m k t   the number k times the whole number t, worked at the place of the mark m
+--   less m s k t        s − k × t, worked there
 use Rattle.std.specs.Prelude.{ℕ, ℤ, Option}
 use Rattle.algebra.specs.Exact.{Exact, whole_e, add_e, neg_e, mul_e}
 use Rattle.lines.specs.Kinds.{entry_of}

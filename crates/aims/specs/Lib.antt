@@ -1,8 +1,8 @@
 -- Aims: a layer by which the cost is taken at the lateness less an aim for each stop and state. Start here.
 --
---   Entries      numbers worked one after the other, each a number of the kind or the end of the work with a mark
---   Aimed        the aims, the line with aims over the line below, and setting an aim
---   Shifting     what the layer makes of the costs, in exact numbers
+--   Entries    numbers worked one after the other, each a number of the kind or the end of the work with a mark
+--   Aimed      the aims, the line with aims over the line below, and setting an aim
+--   Shifting   what the layer makes of the costs, in exact numbers
 pub mod Entries
 pub mod Aimed
 pub mod Shifting

@@ -1,6 +1,6 @@
 -- What aims make of the costs, in exact numbers. Assumes nothing.
 --
---   HeldStop m n             no place of G at stop n is marked
+--   HeldStop m n              no place of G at stop n is marked
 --   less_aims D t n x         the lateness x less the aims of stop n
 --   Shifts good value l b t   the line l has the costs of the line b, taken at the lateness less the aims t, at every stop that it holds,
 --                             the last one included; and lateness travels as on b

@@ -1,7 +1,7 @@
 -- The exact numbers as an ordered field, and any ordered field as a ring with an order. Assumes nothing.
 --
---   exact_field D good    the ordered field of the exact numbers with √D
---   ring_of F             the ring of an ordered field, for the solver of ring identities
+--   exact_field D good   the ordered field of the exact numbers with √D
+--   ring_of F            the ring of an ordered field, for the solver of ring identities
 use Rattle.std.proofs.Common.{◌≡◌, ℕ, zero, suc, ◌≢◌, nat_abs, refl, ap, inl, inr, arith}
 use Rattle.algebra.specs.Ring.{Ring, Ordered, Inverses}
 use Rattle.algebra.specs.Field.{OrderedField}

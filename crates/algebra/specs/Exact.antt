@@ -1,15 +1,15 @@
 -- The exact numbers (p + q√D)/m, held as a + b√D with fractions a and b in lowest terms, so that `≡` says that two are the same number.
 -- Where D is 0, √D is 0 and b is 0. Everything computes, so that a closed example is `refl`. Assumes nothing.
 --
---   NoSquare D        D is no square
---   Radicand D        D may stand under the root: it is 0, or no square
---   Exact D           the numbers a + b√D
---   exact D p q m     (p + q√D)/m, for m > 0
---   whole_e D w        the whole number w
---   zero_e D, one_e D   0 and 1
---   add_e, neg_e, mul_e  sum, opposite, product
---   inv_e x            1/x, and 0 at 0
---   PosE x            x is positive
+--   NoSquare D            D is no square
+--   Radicand D            D may stand under the root: it is 0, or no square
+--   Exact D               the numbers a + b√D
+--   exact D p q m         (p + q√D)/m, for m > 0
+--   whole_e D w           the whole number w
+--   zero_e D, one_e D     0 and 1
+--   add_e, neg_e, mul_e   sum, opposite, product
+--   inv_e x               1/x, and 0 at 0
+--   PosE x                x is positive
 use Rattle.std.specs.Prelude.{◌≡◌, ℕ, zero, suc, ◌*◌, Bool, true, ◌&&◌, ◌||◌, T, ◌≢◌, ◌⊎◌, ℤ, pos, ◌==◌, unsigned_abs}
 use Rattle.algebra.specs.Rational.{ℚ, 0ℚ, 1ℚ, over, whole, addℚ, negq, mulℚ, invℚ, positive}
 

@@ -1,6 +1,6 @@
 -- An ordered field, as a record over its carrier: the laws on which every theory of this repository rests. Assumes nothing.
 --
---   OrderedField        the numbers (Car) with 𝟘, 𝟙, _⊕_ (sum), _⊗_ (product), neg (the opposite), inv (one over, 0 at 0) and Pos (is positive)
+--   OrderedField   the numbers (Car) with 𝟘, 𝟙, ◌⊕◌ (sum), ◌⊗◌ (product), neg (the opposite), inv (one over, 0 at 0) and Pos (is positive)
 use Rattle.std.specs.Prelude.{◌≡◌, ◌≢◌, ◌⊎◌}
 
 pub record OrderedField : Type 1 where

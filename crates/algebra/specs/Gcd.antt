@@ -1,8 +1,8 @@
 -- The greatest common divisor of two and of three numbers, by Euclid. Assumes nothing.
 --
---   gcd a b, gcd₃ a b c     the greatest common divisor; 0 where all are 0
---   IsGcd a b g             g divides a and b, and whatever divides both divides g
---   IsGcd₃ a b c g          the same of three numbers
+--   gcd a b, gcd₃ a b c   the greatest common divisor; 0 where all are 0
+--   IsGcd a b g           g divides a and b, and whatever divides both divides g
+--   IsGcd₃ a b c g        the same of three numbers
 use Rattle.std.specs.Prelude.{ℕ, zero, suc, ◌%◌}
 use Rattle.std.specs.Int.{◌∣◌}
 

@@ -1,15 +1,15 @@
 -- What is proved of exact numbers and of common divisors. Assumes nothing.
 --
 --   OrderedFieldLaws 0 1 + × − inv Pos   these make an ordered field (the laws of `OrderedField`, over operations that are given)
---   ExactIsOrderedField               the exact numbers are one, for D = 0 and for every D that is no square
+--   ExactIsOrderedField                  the exact numbers are one, for D = 0 and for every D that is no square
 --   Plain D q                            the root part q is 0 where D is 0
---   SameNumber                          two triples mean the same number exactly where p·m' = p'·m and q·m' = q'·m
+--   SameNumber                           two triples mean the same number exactly where p·m' = p'·m and q·m' = q'·m
 --   PositiveParts D p q                  the test on whole numbers by which (p + q√D)/m is positive
---   PositiveOfParts                    a triple is positive exactly where its parts pass that test
+--   PositiveOfParts                      a triple is positive exactly where its parts pass that test
 --   LowestParts D p q m                  m is above 0, and p, q, m have no common divisor but 1 (and q is 0 where D is 0)
---   LowestPartsUnique                  triples in lowest parts that mean the same number are the same triple
---   LowestPartsExist                   every exact number has one
---   GcdIsGreatest                      gcd and gcd₃ are the greatest common divisors
+--   LowestPartsUnique                    triples in lowest parts that mean the same number are the same triple
+--   LowestPartsExist                     every exact number has one
+--   GcdIsGreatest                        gcd and gcd₃ are the greatest common divisors
 use Rattle.std.specs.Prelude.{◌≡◌, ℕ, ◌<◌, ◌≢◌, ◌⊎◌, ◌↔◌, ℤ, pos, ◌*ℤ◌, ◌≤ℤ◌, ◌<ℤ◌, unsigned_abs}
 use Rattle.algebra.specs.Gcd.{gcd, gcd₃, IsGcd, IsGcd₃}
 use Rattle.algebra.specs.Exact.{Exact, Radicand, exact, zero_e, one_e, add_e, neg_e, mul_e, inv_e, PosE}

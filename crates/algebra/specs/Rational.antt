@@ -1,11 +1,11 @@
 -- Fractions in lowest terms, so that `≡` says that two are the same number. Assumes nothing.
 --
---   ℚ                         the fractions num/den
---   over p m                  p/m, for m > 0
---   whole n                   the natural number n
---   0ℚ, 1ℚ                    0 and 1
---   addℚ, negq, mulℚ, invℚ    sum, opposite, product, and 1/x (0 at 0)
---   Posℚ x                    x is positive
+--   ℚ                        the fractions num/den
+--   over p m                 p/m, for m > 0
+--   whole n                  the natural number n
+--   0ℚ, 1ℚ                   0 and 1
+--   addℚ, negq, mulℚ, invℚ   sum, opposite, product, and 1/x (0 at 0)
+--   Posℚ x                   x is positive
 use Rattle.std.specs.Prelude.{ℕ, zero, suc, ◌*◌, ◌/◌, Bool, true, false, ◌&&◌, T, ℤ, pos, negsuc, ◌+ℤ◌, ◌*ℤ◌, neg_ℤ, ◌==◌, nat_lt, unsigned_abs}
 use Rattle.algebra.specs.Gcd.{gcd}
 

@@ -1,8 +1,8 @@
 -- Commutative rings, orders on them and inverses, each apart, for theorems that need no more. Assumes nothing.
 --
---   Ring            a commutative ring; `nat n` is the natural number n in it
---   Ordered R       an order that sums and products of positives keep
---   Inverses R      1/x for each x but 0, and 0 there
+--   Ring         a commutative ring; `nat n` is the natural number n in it
+--   Ordered R    an order that sums and products of positives keep
+--   Inverses R   1/x for each x but 0, and 0 there
 use Rattle.std.specs.Prelude.{◌≡◌, ℕ, suc, ◌≢◌, ◌⊎◌}
 
 pub record Ring : Type 1 where

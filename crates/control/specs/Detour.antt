@@ -1,7 +1,7 @@
 -- Another list, for a pivot that is not positive: no dearer than the list it departs from. Assumes nothing.
 --
---   against_sign K s t   the step against a number s with the sign t: −1 where s is positive, else 1
---   against K s          the step against s
+--   against_sign K s t       the step against a number s with the sign t: −1 where s is positive, else 1
+--   against K s              the step against s
 --   detour_stop L b i u x    the adjustments at stop b that move input i of u by one, against the sign of its row of the reduced matrix,
 --                            and keep the gaps of the inputs before it
 --   detour_from L b i us x   from stop b: these, and then the adjustments that keep all the gaps of us

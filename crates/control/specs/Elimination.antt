@@ -1,13 +1,13 @@
 -- Elimination of the variables of a quadratic form, first to last. Assumes nothing.
 --
---   scaled K A i c       row i over its diagonal entry: A i c / A i i
---   eliminate K A i      A with variable i eliminated: entry a, c loses A i a · A i c / A i i
---   reduced K A i        A with the variables 0 .. i − 1 eliminated, one after the other
---   pivot_of K A i       the diagonal entry i of A, when the variables before i are eliminated
---   factor_of K A i c    row i over that pivot, at column c
---   later_of K w A i z   the sum over i < c < w of factor_of K A i c · z c: what the later variables make of row i over its pivot
---   gap_of K w A i z     z i plus that sum: how far z i lies from where row i vanishes
---   fill K w A g j z     z with the variables j − 1, .., 0 set, the last one first, such that their gaps are g (j − 1), .., g 0
+--   scaled K A i c              row i over its diagonal entry: A i c / A i i
+--   eliminate K A i             A with variable i eliminated: entry a, c loses A i a · A i c / A i i
+--   reduced K A i               A with the variables 0 .. i − 1 eliminated, one after the other
+--   pivot_of K A i              the diagonal entry i of A, when the variables before i are eliminated
+--   factor_of K A i c           row i over that pivot, at column c
+--   later_of K w A i z          the sum over i < c < w of factor_of K A i c · z c: what the later variables make of row i over its pivot
+--   gap_of K w A i z            z i plus that sum: how far z i lies from where row i vanishes
+--   fill K w A g j z            z with the variables j − 1, .., 0 set, the last one first, such that their gaps are g (j − 1), .., g 0
 --   later_by, gap_by, fill_by   the same for any rows r of factors in place of those of A
 use Rattle.std.specs.Prelude.{ℕ, zero, suc, ◌+◌, ◌-◌}
 use Rattle.algebra.specs.Field.{OrderedField}

@@ -15,17 +15,17 @@
 --   Ones          the worked example: next lateness u + x, cost u² + x² at each stop and x² at the last
 --
 --   theorem (in Theorems)   what it says                                              on the contract of      proved in proofs/
---   One-stop                stage cost + next value = value + Σ pivot · gap²           one_stop                Stops
---   Along-a-list            cost of a list = value at its start + excess               along_a_list            Accounts
---   Account, Least-account  paid so far + value here = value at the start + excess;    account                 Accounts, Plans
+--   OneStop                 stage cost + next value = value + Σ pivot · gap²           one_stop                Stops
+--   AlongAList              cost of a list = value at its start + excess               along_a_list            Accounts
+--   Account, LeastAccount   paid so far + value here = value at the start + excess;    account                 Accounts, Plans
 --                           with positive pivots, the same of the least costs
---   Best-plan               positive pivots: least cost = value, reached by the plan,  best_plan               Plans
+--   BestPlan                positive pivots: least cost = value, reached by the plan,  best_plan               Plans
 --                           and every other list costs more
---   Failing-pivot           a pivot not positive: no cheapest list; which case holds   failing_pivot           Detours, Decisions
---   Zero-residuals          residuals vanish for the plan with its multipliers alone   zero_residuals          Residuals
---   Upper-half              P, M symmetric; the upper half suffices                    upper_half              UpperHalf
+--   FailingPivot            a pivot not positive: no cheapest list; which case holds   failing_pivot           Detours, Decisions
+--   ZeroResiduals           residuals vanish for the plan with its multipliers alone   zero_residuals          Residuals
+--   UpperHalf               P, M symmetric; the upper half suffices                    upper_half              UpperHalf
 --   Theory                  all of these, for every line in exact numbers              in_exact_numbers        Proved
---   Ones-line               the numbers of the worked example                          ones_line               Example
+--   OnesLine                the numbers of the worked example                          ones_line               Example
 pub mod Matrix
 pub mod Elimination
 pub mod Line

@@ -2,18 +2,18 @@
 --
 -- Stops are numbered 0 to end. A list of adjustments from stop n is a function us: us k i is input i at the stop n + k.
 --
---   Line K               nu inputs, nx states, the last stop (end), and the entries F n k c and G n a c at stop n
---   width L              nu + nx + 1, the length of (u, x, 1)
---   state L x            (x, 1)
---   stacked L u x        (u, x, 1)
---   next L n u x         the lateness at stop n + 1: F at n times (u, x, 1)
---   stage_cost L n u x   the cost at stop n: the form of G at n, taken at (u, x, 1)
---   final_cost L x       the cost at the last stop: the form of G at the end, taken at (x, 1)
---   Lawful L             G is symmetric, and F's last row keeps the constant 1
---   horizon L n          how many stops lie from n on before the last
---   lateness L n us x k  the lateness k stops after n, from lateness x under us
---   paid L k n us x      the cost of the k stops from n on: what they cost once they are confirmed
---   cost L n us x        the cost of us from stop n and lateness x to the end: of its stops, and of the last one where they lead
+--   Line K                nu inputs, nx states, the last stop (end), and the entries F n k c and G n a c at stop n
+--   width L               nu + nx + 1, the length of (u, x, 1)
+--   state L x             (x, 1)
+--   stacked L u x         (u, x, 1)
+--   next L n u x          the lateness at stop n + 1: F at n times (u, x, 1)
+--   stage_cost L n u x    the cost at stop n: the form of G at n, taken at (u, x, 1)
+--   final_cost L x        the cost at the last stop: the form of G at the end, taken at (x, 1)
+--   Lawful L              G is symmetric, and F's last row keeps the constant 1
+--   horizon L n           how many stops lie from n on before the last
+--   lateness L n us x k   the lateness k stops after n, from lateness x under us
+--   paid L k n us x       the cost of the k stops from n on: what they cost once they are confirmed
+--   cost L n us x         the cost of us from stop n and lateness x to the end: of its stops, and of the last one where they lead
 use Rattle.std.specs.Prelude.{◌≡◌, ℕ, zero, suc, ◌+◌, ◌-◌, ◌<◌}
 use Rattle.algebra.specs.Field.{OrderedField}
 use Rattle.control.specs.Matrix.{sum, apply, form, join, Symmetric}

@@ -1,13 +1,13 @@
 -- The worked example: one state, one input, the same rule and cost at each stop. Assumes nothing.
 --
---   squares K k          the matrix of the sum of the first k squares: 1 in the first k places of the diagonal, else 0
---   rule K               the rule u + x: row 0 is 1, 1, 0, and the last row 0, 0, 1
---   ones K e             the line of last stop e with next lateness u + x, cost u² + x² at each stop and x² at the last
---   fractions            the exact numbers with D = 0, as an ordered field
+--   squares K k              the matrix of the sum of the first k squares: 1 in the first k places of the diagonal, else 0
+--   rule K                   the rule u + x: row 0 is 1, 1, 0, and the last row 0, 0, 1
+--   ones K e                 the line of last stop e with next lateness u + x, cost u² + x² at each stop and x² at the last
+--   fractions                the exact numbers with D = 0, as an ordered field
 --   fraction p m, number p   p/m and p, as such numbers
---   two_stops            the ones line over the fractions, with N = 2
---   ten, minus_five      the start, and what is confirmed at stop 0
---   OnesLine            what the definitions give for two stops, from lateness 10: the plan, and what confirming −5 costs
+--   two_stops                the ones line over the fractions, with N = 2
+--   ten, minus_five          the start, and what is confirmed at stop 0
+--   OnesLine                 what the definitions give for two stops, from lateness 10: the plan, and what confirming −5 costs
 use Rattle.std.specs.Prelude.{◌≡◌, refl, cond, ℕ, zero, suc, ltb, ℤ, pos, neg_ℤ}
 use Rattle.std.proofs.Common.{inl}
 use Rattle.algebra.specs.Field.{OrderedField}

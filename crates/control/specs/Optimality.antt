@@ -1,10 +1,10 @@
 -- When one list costs less than another, and what the least cost is. Assumes nothing.
 --
---   Exceeds K a b        a is more than b: their difference is positive
+--   Exceeds K a b       a is more than b: their difference is positive
 --   AtMost K a b        a is b, or b is more than a
---   Same L m us vs       us and vs have the same adjustments at their first m stops
---   Differ L m us vs     some adjustment at one of their first m stops differs
---   Cheapest L n x us    from stop n and lateness x, every other list costs more than us
+--   Same L m us vs      us and vs have the same adjustments at their first m stops
+--   Differ L m us vs    some adjustment at one of their first m stops differs
+--   Cheapest L n x us   from stop n and lateness x, every other list costs more than us
 --   LeastCost L n x v   v is the cost of a list that every other exceeds
 use Rattle.std.specs.Prelude.{◌≡◌, ◌⊎◌, ◌≢◌, ℕ, ◌<◌}
 use Rattle.algebra.specs.Field.{OrderedField}

@@ -1,10 +1,10 @@
 -- Lists of adjustments with given gaps, and the plan: the list with no gap. Assumes nothing.
 --
---   solve L n g x        the adjustments at stop n whose gaps are g, the last input first
---   steered L n g x k    the lateness k stops after n under the adjustments whose gaps are g 0, g 1, ..
---   steer L n g x        these adjustments: at each stop solve, then the next lateness, on to the end
---   plan L n x           the plan from stop n and lateness x: no gap at any stop
---   gaps L n us x        the gaps of a list: gaps L n us x k i is that of input i at stop n + k
+--   solve L n g x       the adjustments at stop n whose gaps are g, the last input first
+--   steered L n g x k   the lateness k stops after n under the adjustments whose gaps are g 0, g 1, ..
+--   steer L n g x       these adjustments: at each stop solve, then the next lateness, on to the end
+--   plan L n x          the plan from stop n and lateness x: no gap at any stop
+--   gaps L n us x       the gaps of a list: gaps L n us x k i is that of input i at stop n + k
 use Rattle.std.specs.Prelude.{ℕ, zero, suc, ◌+◌}
 use Rattle.algebra.specs.Field.{OrderedField}
 use Rattle.control.specs.Elimination.{fill}

@@ -14,7 +14,7 @@
 --   stop_excess L n u x  the sum over the inputs of pivot × gap²
 --   excess L k n us x    the sum of these over the k stops from n on
 --   NonzeroPivots L n e no pivot is zero at the stops from n on, before e
---   PositivePivots L n  every pivot is positive from stop n to the end
+--   PositivePivots L n   every pivot is positive from stop n to the end
 --   Fails L b i          the recursion meets its first pivot that is not positive at stop b, input i
 use Rattle.std.specs.Prelude.{◌≢◌, ℕ, zero, suc, ◌+◌, ◌<◌, ◌≤◌}
 use Rattle.algebra.specs.Field.{OrderedField}

@@ -2,14 +2,14 @@
 --
 -- Squares are not halved, so a slope here is half a derivative, and the multipliers are half the slopes of the value.
 --
---   multiplier L n x j   the multiplier of lateness x at stop n: row j of P times (x, 1)
---   slope L n u x p a    half the derivative, by place a of (u, x, 1), of the cost at stop n and of what follows; p: the next multipliers
---   residual_u L n u x p i      0 minus the slope by adjustment i
---   residual_x L n u x p q j    multiplier q j of this stop minus the slope by lateness j
---   residual_end L x q j        multiplier q j of the last stop minus row j of G at the end times (x, 1)
---   residual_move L n u x y j   lateness y j at the next stop minus what F makes of (u, x, 1)
---   Stationary L n us xs ps     all residuals are zero, from stop n to the end: us, xs k, ps k are those of stop n + k
---   PlanAndMultipliers L n x us xs ps    us is the plan from stop n and lateness x, xs where it leads, ps the multipliers there
+--   multiplier L n x j                  the multiplier of lateness x at stop n: row j of P times (x, 1)
+--   slope L n u x p a                   half the derivative, by place a of (u, x, 1), of the cost at stop n and of what follows; p: the next multipliers
+--   residual_u L n u x p i              0 minus the slope by adjustment i
+--   residual_x L n u x p q j            multiplier q j of this stop minus the slope by lateness j
+--   residual_end L x q j                multiplier q j of the last stop minus row j of G at the end times (x, 1)
+--   residual_move L n u x y j           lateness y j at the next stop minus what F makes of (u, x, 1)
+--   Stationary L n us xs ps             all residuals are zero, from stop n to the end: us, xs k, ps k are those of stop n + k
+--   PlanAndMultipliers L n x us xs ps   us is the plan from stop n and lateness x, xs where it leads, ps the multipliers there
 use Rattle.std.specs.Prelude.{◌≡◌, ℕ, suc, ◌+◌, ◌<◌, ◌≤◌}
 use Rattle.algebra.specs.Field.{OrderedField}
 use Rattle.control.specs.Matrix.{sum, apply}

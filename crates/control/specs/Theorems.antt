@@ -7,12 +7,12 @@
 --   BestPlan L          that holds from every stop on from which all pivots are positive
 --   LeastAccount L      cost of the confirmed stops + least cost where they lead = least cost at the start + excess
 --   FailingFrom L b i n from stop n: every list has another, its detour at stop b and input i, that costs no more; so none is cheapest
---   FailingPivot L      that holds before the first pivot that is not positive; such a pivot there is, or all are positive; and all are
---                        positive exactly when some start has one list cheaper than all others
---   StationaryFrom L n x    all residuals are zero for the plan with its multipliers, and for nothing else from that start
---   ZeroResiduals L     that holds from every stop on from which no pivot is zero
---   UpperHalf L         the recursion's matrices are symmetric, and their upper half is worked, entry by entry, from the upper half alone
---   Theory L             all of these
+--   FailingPivot L         that holds before the first pivot that is not positive; such a pivot there is, or all are positive; and all are
+--                          positive exactly when some start has one list cheaper than all others
+--   StationaryFrom L n x   all residuals are zero for the plan with its multipliers, and for nothing else from that start
+--   ZeroResiduals L        that holds from every stop on from which no pivot is zero
+--   UpperHalf L            the recursion's matrices are symmetric, and their upper half is worked, entry by entry, from the upper half alone
+--   Theory L               all of these
 use Rattle.std.specs.Prelude.{◌≡◌, ◌⊎◌, ◌↔◌, ℕ, suc, ◌+◌, ◌<◌, ◌≤◌}
 use Rattle.algebra.specs.Field.{OrderedField}
 use Rattle.control.specs.Matrix.{sum, Symmetric, SameUpper}

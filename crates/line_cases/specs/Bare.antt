@@ -1,7 +1,7 @@
 -- A line of any sizes, 0 and far beyond the limits included. Assumes nothing.
 --
---   zeros n r c             the whole number 0, at every place
---   bare_line end nx nu     the line of these sizes whose entries are 0 but for the 1 of F's last row
+--   zeros n r c           the whole number 0, at every place
+--   bare_line end nx nu   the line of these sizes whose entries are 0 but for the 1 of F's last row
 use Rattle.std.specs.Prelude.{ℕ, ℤ, pos}
 use Rattle.numbers.specs.declared.fraction.Fraction.{Fraction}
 use Rattle.lines.specs.Fractions.{find_fraction}

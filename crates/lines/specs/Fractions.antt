@@ -1,6 +1,6 @@
 -- The fraction with given lowest parts. Assumes nothing.
 --
---   find_fraction p q m     the fraction p/m where it has the form, else none; q is 0 in the lowest parts of a fraction
+--   find_fraction p q m   the fraction p/m where it has the form, else none; q is 0 in the lowest parts of a fraction
 use Rattle.std.specs.Prelude.{ℕ, ℤ, pos, Option}
 use Rattle.numbers.specs.Forms.{has_form, plain_row}
 use Rattle.numbers.specs.Fractions.{fraction_size}

@@ -1,13 +1,13 @@
 -- Which exact numbers a kind holds, as a function: so that what stands at a place where a layer works a number is a function too.
 -- `value` says what exact number a value of the kind means, `find` looks for the value with given lowest parts. Assumes nothing.
 --
---   Found value x o         o is the value that means x, or none and no value means x
---   Finds value find        find p q m is what is found for (p + q√D)/m in lowest parts
---   pick b f                the value f where the test b is true, else none
---   lowest_parts_lem x          p, q and m of x in lowest parts
---   look_up find x          the value that means x, if the kind holds x
---   entry_of find m x       x as an entry: the value that means it, or the mark m where the kind does not hold it
---   Worked find m x r       r is the number that stands in that entry, or the number's fault with the mark m
+--   Found value x o      o is the value that means x, or none and no value means x
+--   Finds value find     find p q m is what is found for (p + q√D)/m in lowest parts
+--   pick b f             the value f where the test b is true, else none
+--   lowest_parts_lem x   p, q and m of x in lowest parts
+--   look_up find x       the value that means x, if the kind holds x
+--   entry_of find m x    x as an entry: the value that means it, or the mark m where the kind does not hold it
+--   Worked find m x r    r is the number that stands in that entry, or the number's fault with the mark m
 use Rattle.std.specs.Prelude.{◌≡◌, ℕ, ◌*◌, ◌/◌, Bool, true, false, T, ℤ, pos, ◌*ℤ◌, Some, None, Ok, Err, Option, Result, unsigned_abs}
 use Rattle.algebra.specs.Gcd.{gcd₃}
 use Rattle.algebra.specs.Rational.{part}

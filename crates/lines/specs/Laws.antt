@@ -1,15 +1,15 @@
 -- What every line keeps. Assumes nothing.
 --
---   Means value e x     the exact number x stands at the place, as a number of the kind
---   Lawful value m      places outside mean 0, F's last row keeps the constant 1, G is its own mirror, marks included
---   place_mark l n r c  the mark of level l at stop n, row r, column c
---   F_mark m n k c      the mark that the line itself puts at a place of F: of its own level, and naming the place
---   G_mark m n a c      the same of G: of the place and its mirror it names the one above the diagonal
---   Marks m e           the mark e stands at some place of the line
---   Unmarked m          the line has no mark
---   OwnOrBelow m b    each mark of the line is its own mark of that place, or, whole, one of the line b below
---   Levelled m          a line at the bottom has level 0, and all its marks are its own; a layer has one level more than the line below,
---                       but at most 255, and each of its marks is its own or passed up whole from below
+--   Means value e x      the exact number x stands at the place, as a number of the kind
+--   Lawful value m       places outside mean 0, F's last row keeps the constant 1, G is its own mirror, marks included
+--   place_mark l n r c   the mark of level l at stop n, row r, column c
+--   F_mark m n k c       the mark that the line itself puts at a place of F: of its own level, and naming the place
+--   G_mark m n a c       the same of G: of the place and its mirror it names the one above the diagonal
+--   Marks m e            the mark e stands at some place of the line
+--   Unmarked m           the line has no mark
+--   OwnOrBelow m b       each mark of the line is its own mark of that place, or, whole, one of the line b below
+--   Levelled m           a line at the bottom has level 0, and all its marks are its own; a layer has one level more than the line below,
+--                        but at most 255, and each of its marks is its own or passed up whole from below
 use Rattle.std.specs.Prelude.{◌≡◌, ℕ, suc, ◌+◌, ◌<◌, min, max, ◌⊎◌}
 use Rattle.algebra.specs.Exact.{Exact, zero_e, one_e}
 use Rattle.lines.specs.declared.faults.Mark.{Mark}

@@ -1,16 +1,16 @@
 -- What a line means. Assumes nothing.
 --
---   Entry A             what stands at a place: `holds k`, a number k of the kind A, or `marked m`, the mark that the number is too large
---   Meaning A           the last stop (end), the numbers of states and inputs (nx, nu), the level, and what stands at F n k c and G n a c:
---                       at stop n, the row and the column
---   order_of end nx nu n    the order of G at stop n, for these sizes: nu + nx + 1, and nx + 1 at the last stop; 0 past it
---   order m n           the order of G at stop n, for the sizes of the line m
---   InF m n k c        the place k, c of F at stop n is one of the line's
---   InG m n a c        the place a, c of G at stop n is one of the line's
---   Answer e r          r is the answer at a place where e stands: its number, or the refusal 1 with its mark
---   line_fault f        the number of the refusal f: 1, too large
---   told K value e      the exact number at a place where e stands; a marked place counts 0
---   line_of K value m   the line in exact numbers, for the theory of plans
+--   Entry A                what stands at a place: `holds k`, a number k of the kind A, or `marked m`, the mark that the number is too large
+--   Meaning A              the last stop (end), the numbers of states and inputs (nx, nu), the level, and what stands at F n k c and G n a c:
+--                          at stop n, the row and the column
+--   order_of end nx nu n   the order of G at stop n, for these sizes: nu + nx + 1, and nx + 1 at the last stop; 0 past it
+--   order m n              the order of G at stop n, for the sizes of the line m
+--   InF m n k c            the place k, c of F at stop n is one of the line's
+--   InG m n a c            the place a, c of G at stop n is one of the line's
+--   Answer e r             r is the answer at a place where e stands: its number, or the refusal 1 with its mark
+--   line_fault f           the number of the refusal f: 1, too large
+--   told K value e         the exact number at a place where e stands; a marked place counts 0
+--   line_of K value m      the line in exact numbers, for the theory of plans
 use Rattle.std.specs.Prelude.{◌≡◌, ℕ, suc, ◌+◌, ◌<◌, cond, Ok, Err, Result, ◌==◌, nat_lt}
 use Rattle.algebra.specs.Field.{OrderedField}
 use Rattle.control.specs.Line.{Line as ExactLine}

@@ -1,12 +1,12 @@
 -- When whole numbers are opened as a line, and when they are refused. Assumes nothing.
 --
---   open_fault f            the number of the refusal: 3 header, 4 length, 5 entry
---   Size most z n           z is the size n, which is 1 to `most`
---   TableHeader zs end nx nu   the list begins with these three sizes: N to 24, nx to 4, nu to 3
---   TableOpens zs end nx nu    so it does, it has the length for them, and no entry is beyond 9,999
---   TableRefused zs f      why a table is refused, in the order of the checks
---   SteadyOpens, SteadyRefused    the same of a steady line, whose header is N and whose length is 10
---   FirstBeyond j zs i     i is the first index from j on at which a number is beyond 9,999
+--   open_fault f                 the number of the refusal: 3 header, 4 length, 5 entry
+--   Size most z n                z is the size n, which is 1 to `most`
+--   TableHeader zs end nx nu     the list begins with these three sizes: N to 24, nx to 4, nu to 3
+--   TableOpens zs end nx nu      so it does, it has the length for them, and no entry is beyond 9,999
+--   TableRefused zs f            why a table is refused, in the order of the checks
+--   SteadyOpens, SteadyRefused   the same of a steady line, whose header is N and whose length is 10
+--   FirstBeyond j zs i           i is the first index from j on at which a number is beyond 9,999
 use Rattle.std.specs.Prelude.{◌≡◌, ℕ, ◌<◌, ◌≤◌, ◌≢◌, List, length, ℤ, pos}
 use Rattle.lines.specs.declared.faults.OpenFault.{OpenFault}
 use Rattle.lines.specs.declared.faults.OpenFault.TheVariants.{BadHeader, BadLength, BadEntry}

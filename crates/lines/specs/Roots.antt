@@ -1,6 +1,6 @@
 -- The number with a root that has given lowest parts. Assumes nothing.
 --
---   find_root p q m         (p + q√D)/m where it has the form, else none
+--   find_root p q m   (p + q√D)/m where it has the form, else none
 use Rattle.std.specs.Prelude.{ℕ, ℤ, pos, Option}
 use Rattle.numbers.specs.Forms.{has_form}
 use Rattle.numbers.specs.Roots.{root_size}

@@ -2,9 +2,9 @@
 --
 -- Its numbers are N, then F's row (adjustment, lateness, constant), then the upper half of G, row by row.
 --
---   steady_F fs, steady_G end gs    F's row and G's upper half before the last stop, from the lists fs and gs; 0 at the last stop
---   weighted end w m                the line m with the number w at the place of the lateness in G at the last stop
---   steady_line D find end fs gs w  the line that these numbers and the final weight w give
+--   steady_F fs, steady_G end gs     F's row and G's upper half before the last stop, from the lists fs and gs; 0 at the last stop
+--   weighted end w m                 the line m with the number w at the place of the lateness in G at the last stop
+--   steady_line D find end fs gs w   the line that these numbers and the final weight w give
 use Rattle.std.specs.Prelude.{ℕ, cond, ◌&&◌, List, ℤ, pos, Option, ◌==◌, nat_lt}
 use Rattle.lines.specs.Meaning.{Meaning, holds}
 use Rattle.lines.specs.Tables.{upper}

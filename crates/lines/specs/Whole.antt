@@ -3,7 +3,7 @@
 --   whole_F end nx nu f n k c   F at a place: f within the states' rows, 0 and 1 in the last row, 0 outside
 --   whole_G end nx nu g n a c   G at a place: g on and above the diagonal, its mirror below it, 0 outside
 --   Small z                     z is at most 9,999 in size
---   SmallFrom i zs             so are the numbers of the list zs from index i on
+--   SmallFrom i zs              so are the numbers of the list zs from index i on
 --   cell zs i                   the number at index i, 0 past the end
 --   whole_line D find ..        the line of level 0 in numbers of a kind
 use Rattle.std.specs.Prelude.{ℕ, suc, ◌+◌, ◌≤◌, min, max, cond, ◌&&◌, List, ℤ, pos, Option, nat_lt, slice_index_or, unsigned_abs}

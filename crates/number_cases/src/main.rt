@@ -3,7 +3,7 @@
 // Works out the cases of a table and compares each answer with the one written there.
 //
 // A line has five words: the kind (`fraction`, `root3`, `root5`), the operation (`plus`, `minus`, `times`, `over`, `positive`,
-// `same`), two numbers, and the answer: a number, `yes` or `no`, `refused-1` or `refused-2`, `not-held` or `no_number`.
+// `same`), two numbers, and the answer: a number, `yes` or `no`, `refused-1` or `refused-2`, `not-held` or `no-number`.
 use number_text::{TextFault, read_number};
 use numbers::{Five, Fraction, Number, Root, Three};
 use std::alloc::{AllocError, Global};

@@ -1,13 +1,13 @@
 -- What reading a text answers. Assumes nothing.
 --
---   Reads D value bs r    r is the value that means the number spelled, or 'not held' where none does, or 'no number' where
---                         the bytes spell none
---   Short row             each part has at most 18 digits
+--   Reads D value bs r       r is the value that means the number spelled, or 'not held' where none does, or 'no number' where
+--                            the bytes spell none
+--   Short row                each part has at most 18 digits
 --   ReadsBack D parts bs r   where bs is the text of a value with short parts, r is that value
---   PlainAnswer P r       r is a row p, 0, m of which P holds, or none where P holds of none
---   PairAnswer P r        r is a pair of which P holds, or none where P holds of none
---   RootedAnswer D bs r   r is the parts that the bytes spell with a root, or none where they spell none so
---   Found D bs r          r is the parts that the bytes spell, or none where they spell none
+--   PlainAnswer P r          r is a row p, 0, m of which P holds, or none where P holds of none
+--   PairAnswer P r           r is a pair of which P holds, or none where P holds of none
+--   RootedAnswer D bs r      r is the parts that the bytes spell with a root, or none where they spell none so
+--   Found D bs r             r is the parts that the bytes spell, or none where they spell none
 use Rattle.std.specs.Prelude.{◌≡◌, ℕ, ◌^◌, ◌<◌, List, ℤ, pos, ◌<ℤ◌, Some, None, Ok, Err, Option, Result, unsigned_abs}
 use Rattle.algebra.specs.Exact.{Exact, exact}
 use Rattle.numbers.specs.Answers.{Held}

@@ -1,21 +1,21 @@
 -- How a number is spelled: as `p`, as `p/m`, or as `(p+q√D)/m`. Assumes nothing.
 --
---   Natural bs n         the bytes are 1 to 18 digits, and n is the number that they write
---   Positive bs z        the same, as a whole number z
---   Minus bs z           a − and then the digits of a number whose opposite is z
---   Whole bs z           a whole number: digits, with a − in front where it is negative
---   Step bs z            a whole number with its sign, + or −, always in front
---   Over t u p m         t is p, and u is m, which is not 0
---   Plain bs p m         the bytes are p alone, and m is 1, or they are p, a slash, and m, which is not 0
---   Beside t u p q       t is p, and u is q with its sign
---   Sum bs p q           the bytes are p and then q with its sign
---   UnderRoot bs n       the bytes are √ and n
---   Inside D bs p q      the bytes are p, q with its sign, √ and D
---   Below bs m           the bytes are `)/` and m, which is not 0
---   Rooted D bs p q m    the bytes are `(p+q√D)/m`, for a D above 0 and an m that is not 0
---   Spells D bs p q m    the bytes spell (p + q√D)/m in one of the three ways
---   Lacks c bs           the byte c does not stand in bs
---   Cut a b bs i         i is where a or b stands first in bs, and the length of bs where neither does
+--   Natural bs n        the bytes are 1 to 18 digits, and n is the number that they write
+--   Positive bs z       the same, as a whole number z
+--   Minus bs z          a − and then the digits of a number whose opposite is z
+--   Whole bs z          a whole number: digits, with a − in front where it is negative
+--   Step bs z           a whole number with its sign, + or −, always in front
+--   Over t u p m        t is p, and u is m, which is not 0
+--   Plain bs p m        the bytes are p alone, and m is 1, or they are p, a slash, and m, which is not 0
+--   Beside t u p q      t is p, and u is q with its sign
+--   Sum bs p q          the bytes are p and then q with its sign
+--   UnderRoot bs n      the bytes are √ and n
+--   Inside D bs p q     the bytes are p, q with its sign, √ and D
+--   Below bs m          the bytes are `)/` and m, which is not 0
+--   Rooted D bs p q m   the bytes are `(p+q√D)/m`, for a D above 0 and an m that is not 0
+--   Spells D bs p q m   the bytes spell (p + q√D)/m in one of the three ways
+--   Lacks c bs          the byte c does not stand in bs
+--   Cut a b bs i        i is where a or b stands first in bs, and the length of bs where neither does
 use Rattle.std.specs.Prelude.{◌≡◌, ℕ, ◌+◌, ◌<◌, ◌≤◌, ◌≢◌, ◌⊎◌, List, [], ◌∷◌, ◌++◌, length, take, drop, ℤ, pos, neg_ℤ}
 use Rattle.std.specs.Str.Parse.{AllDigits, digits_value}
 use Rattle.numbers.specs.Texts.{root_sign}

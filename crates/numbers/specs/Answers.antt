@@ -1,10 +1,10 @@
 -- What a kind of number answers. `value` says what exact number a value of the kind means. Assumes nothing.
 --
---   fault_number e          the number of a refusal: 1 too large, 2 zero divisor
---   Held value x            some value of the kind means x
---   Answers value x r       r is the value that means x, or the refusal 1 and no value means x
---   Quotient value x y r    the same of x over y, but for y = 0 the refusal 2
---   Decides b P             b is true exactly where P holds
+--   fault_number e         the number of a refusal: 1 too large, 2 zero divisor
+--   Held value x           some value of the kind means x
+--   Answers value x r      r is the value that means x, or the refusal 1 and no value means x
+--   Quotient value x y r   the same of x over y, but for y = 0 the refusal 2
+--   Decides b P            b is true exactly where P holds
 use Rattle.std.specs.Prelude.{◌≡◌, ℕ, Bool, true, false, ◌≢◌, Ok, Err, Result}
 use Rattle.algebra.specs.Exact.{Exact, zero_e, mul_e, inv_e}
 use Rattle.numbers.specs.declared.NumberFault.{NumberFault}

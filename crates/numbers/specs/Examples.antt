@@ -1,6 +1,6 @@
 -- Worked examples of what fractions hold. Assumes nothing.
 --
---   ProductsAtTheLimit     65,535 × 32,768 is a fraction, and 65,536 × 32,768 = 2,147,483,648 is none
+--   ProductsAtTheLimit   65,535 × 32,768 is a fraction, and 65,536 × 32,768 = 2,147,483,648 is none
 use Rattle.std.specs.Prelude.{pos}
 use Rattle.algebra.specs.Exact.{whole_e, mul_e}
 use Rattle.numbers.specs.Answers.{Held}

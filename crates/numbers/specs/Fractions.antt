@@ -1,11 +1,11 @@
 -- Fractions in lowest terms, with |p| and m up to 2,147,483,647. Assumes nothing.
 --
---   fraction_size            2,147,483,647
---   fraction_row k           the row in which a fraction is written
---   fraction_value k         the exact number that it means
---   is_fraction_row row      the row is one that a fraction is written in: q is 0, and it has the form
---   fraction_reading row     the number as which a row is read: 0 unless the row is that of a fraction
---   no_root                  0 is a radicand: there is no root
+--   fraction_size          2,147,483,647
+--   fraction_row k         the row in which a fraction is written
+--   fraction_value k       the exact number that it means
+--   is_fraction_row row    the row is one that a fraction is written in: q is 0, and it has the form
+--   fraction_reading row   the number as which a row is read: 0 unless the row is that of a fraction
+--   no_root                0 is a radicand: there is no root
 use Rattle.std.specs.Prelude.{ℕ, Bool, ◌&&◌, ◌==◌, unsigned_abs, refl}
 use Rattle.std.proofs.Common.{inl}
 use Rattle.algebra.specs.Exact.{Exact, Radicand}

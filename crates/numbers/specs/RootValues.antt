@@ -1,7 +1,7 @@
 -- What a number with a root means, and its row. Assumes nothing.
 --
---   root_row k        the row in which it is written
---   root_value D k    the exact number that it means under the root of D
+--   root_row k       the row in which it is written
+--   root_value D k   the exact number that it means under the root of D
 use Rattle.std.specs.Prelude.{ℕ}
 use Rattle.algebra.specs.Exact.{Exact}
 use Rattle.numbers.specs.Rows.{row_number}

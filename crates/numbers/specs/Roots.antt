@@ -1,10 +1,10 @@
 -- Numbers with a root, (p + q√D)/m, with p, q and m up to 262,143 in size and no common divisor but 1. Assumes nothing.
 --
---   root_size                    262,143
---   Under D                      D is from 2 to 99
---   root_good n                  a number that is no square may stand under the root
---   root_reading D row           the number as which a row is read: 0 unless the row has the form
---   Bounded size x               x is at most `size` in size
+--   root_size            262,143
+--   Under D              D is from 2 to 99
+--   root_good n          a number that is no square may stand under the root
+--   root_reading D row   the number as which a row is read: 0 unless the row has the form
+--   Bounded size x       x is at most `size` in size
 use Rattle.std.proofs.Common.{inr}
 use Rattle.std.specs.Prelude.{ℕ, ◌≤◌, ℤ, unsigned_abs}
 use Rattle.algebra.specs.Exact.{Exact, Radicand, NoSquare}

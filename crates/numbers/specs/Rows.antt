@@ -1,7 +1,7 @@
 -- Rows: three whole numbers p, q, m that stand for (p + q√D)/m. Assumes nothing.
 --
---   row_number D row      the number that the parts of a row stand for, where m is above 0
---   Row D row x           the row is that of x: in lowest parts, with m above 0, and it stands for x
+--   row_number D row   the number that the parts of a row stand for, where m is above 0
+--   Row D row x        the row is that of x: in lowest parts, with m above 0, and it stands for x
 use Rattle.std.specs.Prelude.{◌≡◌, ℕ, pos, ◌<ℤ◌, unsigned_abs}
 use Rattle.algebra.specs.Exact.{Exact, exact}
 use Rattle.algebra.specs.Laws.{LowestParts}

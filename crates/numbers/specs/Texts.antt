@@ -1,10 +1,10 @@
 -- Numbers as text. Assumes nothing.
 --
---   root_sign               the bytes of √
---   with_sign q             a whole number with its sign, + or −, always written
---   plain_text p m          the text of p/m: p alone where m is 1
---   root_text D p q m       the text of (p + q√D)/m with every part written
---   number_text D row       the text of a row: plain where q is 0, else with the root
+--   root_sign           the bytes of √
+--   with_sign q         a whole number with its sign, + or −, always written
+--   plain_text p m      the text of p/m: p alone where m is 1
+--   root_text D p q m   the text of (p + q√D)/m with every part written
+--   number_text D row   the text of a row: plain where q is 0, else with the root
 use Rattle.std.specs.Prelude.{ℕ, suc, Bool, false, cond, List, [], ◌∷◌, ◌++◌, ℤ, pos, negsuc, decimal, ◌==◌}
 use Rattle.std.specs.Fmt.{signed_decimal}
 use Rattle.numbers.specs.declared.Parts.{Parts}

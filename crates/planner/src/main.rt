@@ -3,6 +3,7 @@
 // The planner's program: files and commands in, a report out. What it performs is in the libraries.
 use failure::*;
 use std::env;
+use std::process::ExitCode;
 
 mod commands;
 mod failure;
@@ -11,12 +12,12 @@ mod join;
 mod linefile;
 mod show;
 
-fn main(rt: HostRuntime) -> Result<(), Failure> {
+fn main(rt: HostRuntime) -> ExitCode {
     match run(&rt) {
-        Ok(()) => Ok(()),
+        Ok(()) => ExitCode::SUCCESS,
         Err(failure) => {
-            eprintln!(rt; "planner: {failure}")?;
-            Err(failure)
+            let _ = eprintln!(rt; "planner: {failure}");
+            ExitCode::FAILURE
         }
     }
 }

@@ -1,9 +1,9 @@
 -- What each of the ten calls promises, for every input: what it leaves when it is granted, and that a refusal is the first of its checks that
 -- fails, hands the study back and leaves the sheets. N is a kind of number with the values A. Assumes nothing.
 --
---   WeighPromise, BeginPromise, ProposePromise, ConfirmPromise      of the study, the sheets before and after, and the answer
---   AnswerPromise s c y r    a question that makes the checks c answers the number y, or refuses
---   ClosePromise u r         a close at the last stop gives the study back weighed
+--   WeighPromise, BeginPromise, ProposePromise, ConfirmPromise   of the study, the sheets before and after, and the answer
+--   AnswerPromise s c y r                                        a question that makes the checks c answers the number y, or refuses
+--   ClosePromise u r                                             a close at the last stop gives the study back weighed
 use Rattle.std.specs.Prelude.{◌≡◌, suc, List, length, Result, MatchResult}
 use Rattle.numbers.specs.declared.Number.{Ghosts}
 use Rattle.numbers.specs.declared.Parts.{Parts}

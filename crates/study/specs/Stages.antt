@@ -1,6 +1,6 @@
 -- The stage that each state of a study is. Assumes nothing.
 --
---   weighed_stage w, underway_stage u, ordered_stage o    the stage of a weighed study, of one underway, of one ordered
+--   weighed_stage w, underway_stage u, ordered_stage o   the stage of a weighed study, of one underway, of one ordered
 use Rattle.study_terms.specs.Sized.{shape}
 use Rattle.study_theory.specs.Runs.{Stage, weighed, underway, ordered}
 use Rattle.study.specs.declared.states.Weighed.{Weighed}

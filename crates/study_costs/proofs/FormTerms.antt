@@ -1,7 +1,7 @@
 -- A quadratic form that is worked term by term, row after row: one more term, one more row, and the first fault. N is a kind of number with the
 -- values A, w the order of the form, M its entries, z the list at which it is taken. Assumes nothing.
 --
---   form_before a c     the form so far, before the term of row a and column c
+--   form_before a c   the form so far, before the term of row a and column c
 use Rattle.std.proofs.Common.{◌≡◌, ℕ, zero, suc, ◌+◌, ◌<◌, ◌≤◌, Ok, Err, Result, subst, inl, inr, arith}
 use native.Mathlib.Decide.{ℕ_discrete}
 use Rattle.numbers.specs.declared.Number.{Ghosts}

@@ -1,9 +1,9 @@
 -- What the calls answer. N is a kind of number with the values A, m the line given to the call; a sheet with a prime is the sheet after the call.
 -- Assumes nothing.
 --
---   BeginAnswer, ConfirmAnswer      the stop reached and what the trail holds, or the refusal of the first check that fails and the trail as it was
---   PaidAnswer, RestAnswer          the number asked for, or the refusal of the first check that fails
---   NextAnswer                       the rows of the next lateness, or the refusal of the first of its numbers that is not held
+--   BeginAnswer, ConfirmAnswer   the stop reached and what the trail holds, or the refusal of the first check that fails and the trail as it was
+--   PaidAnswer, RestAnswer       the number asked for, or the refusal of the first check that fails
+--   NextAnswer                   the rows of the next lateness, or the refusal of the first of its numbers that is not held
 use Rattle.std.specs.Prelude.{◌≡◌, ℕ, suc, List, length, Ok, Err, Result}
 use Rattle.numbers.specs.declared.Number.{Ghosts}
 use Rattle.numbers.specs.declared.Parts.{Parts}

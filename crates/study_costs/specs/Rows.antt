@@ -2,7 +2,7 @@
 --
 --   Entered N numbers n from was now   the first n numbers of a list stand in the sheet from a place on, and the other rows are as they were
 --   Zeroed from to was now             the rows from one place on before another are zero, and the others are as they were
---   WorkedRows N f n rows             the formulas f 0, .., f (n − 1) are sound, and the first n rows are those of their numbers
+--   WorkedRows N f n rows              the formulas f 0, .., f (n − 1) are sound, and the first n rows are those of their numbers
 use Rattle.std.specs.Prelude.{◌≡◌, ℕ, ◌+◌, ◌<◌, ◌≤◌, List, slice_index_or}
 use Rattle.numbers.specs.declared.Number.{Ghosts}
 use Rattle.numbers.specs.declared.Parts.{Parts}

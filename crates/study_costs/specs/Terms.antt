@@ -1,7 +1,7 @@
 -- What one term adds to a sum that is worked. N is a kind of number with the values A, t the sum so far. Assumes nothing.
 --
---   ProductAdded N t x y r       r is the outcome of adding x × y to t, by whatever formulas t and x were worked
---   TermAdded N t e x y r        r is the outcome of adding (e × x) × y to t, by whatever formulas t and e were worked
+--   ProductAdded N t x y r   r is the outcome of adding x × y to t, by whatever formulas t and x were worked
+--   TermAdded N t e x y r    r is the outcome of adding (e × x) × y to t, by whatever formulas t and e were worked
 use Rattle.std.specs.Prelude.{Ok, Result}
 use Rattle.numbers.specs.declared.Number.{Ghosts}
 use Rattle.study_terms.specs.declared.faults.kinds.Below.{Below}

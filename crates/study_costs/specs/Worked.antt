@@ -1,7 +1,7 @@
 -- How forms are worked at any lateness and adjustments. N is a kind of number with the values A. Assumes nothing.
 --
---   value_formula N a gains x     the form of P at the stop a, taken at the lateness x
---   cost_formula N s m n u x      the cost of stop n of the line m, taken at the adjustments u and the lateness x
+--   value_formula N a gains x   the form of P at the stop a, taken at the lateness x
+--   cost_formula N s m n u x    the cost of stop n of the line m, taken at the adjustments u and the lateness x
 use Rattle.std.specs.Prelude.{ℕ, suc, List}
 use Rattle.lines.specs.Meaning.{Meaning}
 use Rattle.numbers.specs.declared.Number.{Ghosts}

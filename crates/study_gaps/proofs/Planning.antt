@@ -1,7 +1,7 @@
 -- The plan at a stop, worked from the last input to the first. Assumes nothing.
 --
---   number_of N here gains trail c      how the number of input c is worked, after the later ones of the plan
---   Right N here gains trail rows c     it is held, and its row stands in the rows
+--   number_of N here gains trail c         how the number of input c is worked, after the later ones of the plan
+--   Right N here gains trail rows c        it is held, and its row stands in the rows
 --   WorkedFrom N here gains trail i rows   so for each input from i on
 use Rattle.std.proofs.Common.{◌≡◌, ℕ, suc, ◌+◌, ◌-◌, ◌<◌, ◌≤◌, List, length, get_or, set, Ok, Result, sym, refl, ap, ◌∙◌, subst, arith, length-set, get_or-set_other, get_or-set_same}
 use native.Mathlib.Decide.{ℕ_discrete}

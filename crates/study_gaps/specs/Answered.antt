@@ -1,8 +1,8 @@
 -- What proposing a stop's plan and telling the excess answer. N is a kind of number with the values A. Assumes nothing.
 --
 --   Proposed N at gains trail slip slip' r   r is the answer of propose at the stop `at`: the stop, where the plan is left in the slip, or the first
---                       check that fails, where the slip is as it was
---   ExcessTold N at gains trail r           r is the answer of excess at the stop `at`: the number, or the first check that fails
+--                                            check that fails, where the slip is as it was
+--   ExcessTold N at gains trail r            r is the answer of excess at the stop `at`: the number, or the first check that fails
 use Rattle.std.specs.Prelude.{◌≡◌, List, length, Ok, Err, Result}
 use Rattle.numbers.specs.declared.Number.{Ghosts}
 use Rattle.numbers.specs.declared.Parts.{Parts}

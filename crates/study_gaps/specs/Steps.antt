@@ -1,15 +1,15 @@
 -- What the steps of the two calls answer. N is a kind of number with the values A, `here` a stop before the last. Assumes nothing.
 --
---   LongSheets s gains trail r     r says that sheets of these lengths have enough room, or refuses the first that has not
---   numbers_from N t i  the numbers that the sheet t has from place i on
---   products N a i b j  the products of those of the sheet a from i on and those of b from j on
---   factors_here N here gains, lateness_here N here trail      the factors and the lateness of the stop
---   later_here N here gains trail u i, plan_here ..     the sum of input i at the adjustments u, and 0 minus it
---   gap_here N here gains trail i       the gap of input i, of the adjustments in the trail
---   planned_here N here gains trail     the plan
---   plan_checks N here gains trail      what propose checks last: the numbers of the plan, from the last input to the first
---   Planned N here gains trail rows     these pass, and the rows are those of the plan
---   PlanAnswered N here gains trail r  r is these rows, or the first of the checks that fails
+--   LongSheets s gains trail r                              r says that sheets of these lengths have enough room, or refuses the first that has not
+--   numbers_from N t i                                      the numbers that the sheet t has from place i on
+--   products N a i b j                                      the products of those of the sheet a from i on and those of b from j on
+--   factors_here N here gains, lateness_here N here trail   the factors and the lateness of the stop
+--   later_here N here gains trail u i, plan_here ..         the sum of input i at the adjustments u, and 0 minus it
+--   gap_here N here gains trail i                           the gap of input i, of the adjustments in the trail
+--   planned_here N here gains trail                         the plan
+--   plan_checks N here gains trail                          what propose checks last: the numbers of the plan, from the last input to the first
+--   Planned N here gains trail rows                         these pass, and the rows are those of the plan
+--   PlanAnswered N here gains trail r                       r is these rows, or the first of the checks that fails
 use Rattle.std.specs.Prelude.{◌≡◌, ℕ, suc, ◌+◌, ◌-◌, ◌<◌, T, ◌⊎◌, List, Ok, Err, Result, nat_le, slice_index_or}
 use Rattle.numbers.specs.declared.Number.{Ghosts}
 use Rattle.numbers.specs.declared.Parts.{Parts}

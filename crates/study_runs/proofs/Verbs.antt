@@ -1,6 +1,6 @@
 -- Which commands a stage allows. Assumes nothing.
 --
---   Verb                the ten calls, by name
+--   Verb   the ten calls, by name
 use Rattle.std.proofs.Common.{◌≡◌, ℕ, ◌⊎◌, Vec, sym, refl, ap, ◌∙◌, inl, inr, arith}
 use Rattle.std.specs.declared.alloc.Global.{Global}
 use Rattle.numbers.specs.declared.Parts.{Parts}

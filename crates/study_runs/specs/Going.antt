@@ -1,12 +1,12 @@
 -- How one command leads from a study and its sheets to the next, whatever the run before. N is a kind of number with the values A, m the line.
 -- Assumes nothing.
 --
---   stage_of study      the stage that a study in any of its states is
---   world stage gains trail ledger    the world of a run
---   Leads N m command a stage stage' gains gains' trail trail'    with every ledger the command, answered by a, makes one step from the world of
---                       the one stage and sheets to that of the other
---   Stays ..            the stage does not allow the command: it makes no call and changes nothing
---   Goes ..             one or the other
+--   stage_of study                                               the stage that a study in any of its states is
+--   world stage gains trail ledger                               the world of a run
+--   Leads N m command a stage stage' gains gains' trail trail'   with every ledger the command, answered by a, makes one step from the world of
+--                                                                the one stage and sheets to that of the other
+--   Stays ..                                                     the stage does not allow the command: it makes no call and changes nothing
+--   Goes ..                                                      one or the other
 use Rattle.std.specs.Prelude.{◌≡◌, ◌⊎◌, List}
 use Rattle.numbers.specs.declared.Number.{Ghosts}
 use Rattle.numbers.specs.declared.Parts.{Parts}

@@ -1,10 +1,10 @@
 -- The call that a command makes, and what an answer tells of its reply. N is a kind of number with the values A. Assumes nothing.
 --
---   Makes command c     c is the call that the command makes, with its own arguments; the sheets of scratch and slip are the performer's
---   SameRows few t     the few rows are those of the sheet t
---   LatenessRows s k trail few    the few rows are the lateness of stop k in the trail
---   name_of stage       the stage by name
---   Tells w a r         the answer a tells the reply r of a call that led to the world w
+--   Makes command c              c is the call that the command makes, with its own arguments; the sheets of scratch and slip are the performer's
+--   SameRows few t               the few rows are those of the sheet t
+--   LatenessRows s k trail few   the few rows are the lateness of stop k in the trail
+--   name_of stage                the stage by name
+--   Tells w a r                  the answer a tells the reply r of a call that led to the world w
 use Rattle.std.specs.Prelude.{◌≡◌, ℕ, ◌<◌, List, length, vec_items, slice_index_or}
 use Rattle.numbers.specs.declared.Parts.{Parts}
 use Rattle.study_terms.specs.Shapes.{Shape}

@@ -1,10 +1,10 @@
 -- The exact numbers of the formulas over gaps, in the words of the theory of plans. Assumes nothing.
 --
---   later_number, gap_number      the sum of the later ones, and the gap
---   planned_stacked     the plan at a stop stands in front of (x, 1) already
---   planned_gap         the plan has no gap
---   plan_number         0 minus the sum that the plan itself makes is the plan
---   excess_number       the excess as it is worked is the sum of pivot × gap²
+--   later_number, gap_number   the sum of the later ones, and the gap
+--   planned_stacked            the plan at a stop stands in front of (x, 1) already
+--   planned_gap                the plan has no gap
+--   plan_number                0 minus the sum that the plan itself makes is the plan
+--   excess_number              the excess as it is worked is the sum of pivot × gap²
 use Rattle.std.proofs.Common.{◌≡◌, ℕ, zero, suc, ◌+◌, ◌-◌, ◌<◌, List, sym, refl, ap, ◌∙◌, ap₂, arith}
 use Rattle.control.specs.Elimination.{later_by, gap_by}
 use Rattle.control.specs.Matrix.{sum}

@@ -1,6 +1,6 @@
 -- What the rows of a kind mean. Assumes nothing.
 --
---   Laws N              what every kind of number keeps, of its values and rows
+--   Laws N   what every kind of number keeps, of its values and rows
 use Rattle.std.proofs.Common.{◌≡◌, ◌≤◌, ℤ, pos, negsuc, nat_abs, ◌<ℤ◌, sym, refl, ap, ◌∙◌, ap₂, arith, lit≤}
 use Rattle.algebra.specs.Exact.{Exact, zero_e, whole_e}
 use Rattle.algebra.specs.Laws.{LowestParts}

@@ -1,18 +1,18 @@
 -- The calls of a study after weigh: what each checks, in order, and what it answers and leaves when it is granted; refused, it leaves everything as
 -- it was. N is a kind of number with the values A, s the shape of the study, k its stop, m the line given to the call. Assumes nothing.
 --
---   later_formula s r i u x   how the sum of propose is worked: the constant's factor, later inputs, states
---   plan_formula, gap_formula     0 minus that sum; the adjustment plus that sum
---   form_formula w M z        how a quadratic form is worked: row by row, each term (entry × z a) × z c
---   next_formula m s n j u x  how the next lateness j is worked
---   planned s r x             the adjustments without a gap at the factors r: the plan at one stop
---   paid_at_lem m s trail k       the cost of the stops before k, of the adjustments and lateness in the trail
---   rest_at s gains trail k   the form of P at stop k, taken at the lateness in the trail
---   excess_at_lem s gains trail k     the sum over the stops before k of pivot × gap²
---   X-checks                  what the call X checks: 16 another shape, 12 gains short, 21 start length, 22 trail short, 31 at the end, 33 slip length,
---                             41 adjustments length, 61 before the end; and 32, 42, 51 for a number that is too large
---   BeginGranted, ProposeGranted, ConfirmGranted     what a granted call leaves
---   AnswerGranted c y x      the checks c pass, and the answer x means the number y
+--   later_formula s r i u x                        how the sum of propose is worked: the constant's factor, later inputs, states
+--   plan_formula, gap_formula                      0 minus that sum; the adjustment plus that sum
+--   form_formula w M z                             how a quadratic form is worked: row by row, each term (entry × z a) × z c
+--   next_formula m s n j u x                       how the next lateness j is worked
+--   planned s r x                                  the adjustments without a gap at the factors r: the plan at one stop
+--   paid_at_lem m s trail k                        the cost of the stops before k, of the adjustments and lateness in the trail
+--   rest_at s gains trail k                        the form of P at stop k, taken at the lateness in the trail
+--   excess_at_lem s gains trail k                  the sum over the stops before k of pivot × gap²
+--   X-checks                                       what the call X checks: 16 another shape, 12 gains short, 21 start length, 22 trail short, 31 at the end, 33 slip length,
+--                                                  41 adjustments length, 61 before the end; and 32, 42, 51 for a number that is too large
+--   BeginGranted, ProposeGranted, ConfirmGranted   what a granted call leaves
+--   AnswerGranted c y x                            the checks c pass, and the answer x means the number y
 use Rattle.std.specs.Prelude.{◌≡◌, ℕ, zero, suc, ◌+◌, ◌-◌, ◌<◌, ◌≤◌, not, List, length, ◌==◌, nat_le, slice_index_or}
 use Rattle.control.specs.Elimination.{gap_by, fill_by}
 use Rattle.control.specs.Line.{next, stage_cost}

@@ -1,15 +1,15 @@
 -- A number to be worked: its operations in their order, each of which has to be held. It decides refusals, and says nothing of the subject.
 -- N is a kind of number with the values A. Assumes nothing.
 --
---   field N             the exact numbers of the kind, as an ordered field; NumberOf N: one of them
---   Formula A C         a number at hand (known), an entry of a line (asked), or an operation on two that are worked one after the other
---   exact N f           the exact number that the formula f gives; a marked entry counts 0
---   sums s n f          s + f 0 + .. + f (n − 1), added one after the other
---   Holds N x           some value of the kind means x
---   Divides N x y       y is not 0, and x over y is held
---   Sound N f           no entry of f is marked, and each of its operations has a result that is held
---   FirstFault N f b    b is the first fault, from the left: an entry that is marked, or an operation whose result is not held
---   Outcome N f r       r is what working f answers: the value that means its exact number, or its first fault
+--   field N            the exact numbers of the kind, as an ordered field; NumberOf N: one of them
+--   Formula A C        a number at hand (known), an entry of a line (asked), or an operation on two that are worked one after the other
+--   exact N f          the exact number that the formula f gives; a marked entry counts 0
+--   sums s n f         s + f 0 + .. + f (n − 1), added one after the other
+--   Holds N x          some value of the kind means x
+--   Divides N x y      y is not 0, and x over y is held
+--   Sound N f          no entry of f is marked, and each of its operations has a result that is held
+--   FirstFault N f b   b is the first fault, from the left: an entry that is marked, or an operation whose result is not held
+--   Outcome N f r      r is what working f answers: the value that means its exact number, or its first fault
 use Rattle.std.specs.Prelude.{◌≡◌, ℕ, zero, suc, ◌≢◌, ◌⊎◌, Ok, Err, Result}
 use Rattle.algebra.specs.Field.{OrderedField}
 use Rattle.algebra.specs.Exact.{Exact}

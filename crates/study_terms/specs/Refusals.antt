@@ -1,11 +1,11 @@
 -- Every refusal of the study, with its number and its values. Assumes nothing.
 --
---   Refusal             a number, and values in their order
---   bare n              the refusal n without values
---   below_values b      what lies below: nothing where a number is too large, or level, stop, row and column of a line's mark
---   pivot_refusal n i   14: the pivot of input i at stop n is not positive
+--   Refusal                   a number, and values in their order
+--   bare n                    the refusal n without values
+--   below_values b            what lies below: nothing where a number is too large, or level, stop, row and column of a line's mark
+--   pivot_refusal n i         14: the pivot of input i at stop n is not positive
 --   large_refusal n t a c b   15: the number of step t at stop n, row a, column c is too large, because of b
---   refusal e           the refusal that the fault e tells
+--   refusal e                 the refusal that the fault e tells
 use Rattle.std.specs.Prelude.{ℕ, List, [], ◌∷◌}
 use Rattle.study_terms.specs.declared.faults.kinds.Below.{Below}
 use Rattle.study_terms.specs.declared.faults.kinds.Below.TheVariants as below

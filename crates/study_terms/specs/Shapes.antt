@@ -1,13 +1,13 @@
 -- The sizes of a line and of a study, and how much room its sheets need. Assumes nothing.
 --
---   Shape               the last stop (end), and the numbers of states and inputs of each stop (nx, nu)
---   shape_of m          the shape of the line m
---   in_limits s         a study may have it: 1 ≤ end ≤ 24, 1 ≤ nx ≤ 4, 1 ≤ nu ≤ 3
---   same_shape s t      all three are equal
---   width s             nu + nx + 1, the length of (u, x, 1)
---   gains_need s        for each input of each stop before the last a row of `width`, then for each stop a square of nx + 1
---   scratch_need s      a square of `width`, then nx + 1 rows of `width`
---   trail_need s        lateness and adjustments of each stop before the last, then the lateness at the last
+--   Shape            the last stop (end), and the numbers of states and inputs of each stop (nx, nu)
+--   shape_of m       the shape of the line m
+--   in_limits s      a study may have it: 1 ≤ end ≤ 24, 1 ≤ nx ≤ 4, 1 ≤ nu ≤ 3
+--   same_shape s t   all three are equal
+--   width s          nu + nx + 1, the length of (u, x, 1)
+--   gains_need s     for each input of each stop before the last a row of `width`, then for each stop a square of nx + 1
+--   scratch_need s   a square of `width`, then nx + 1 rows of `width`
+--   trail_need s     lateness and adjustments of each stop before the last, then the lateness at the last
 use Rattle.std.specs.Prelude.{ℕ, suc, ◌+◌, ◌*◌, Bool, ◌&&◌, ◌==◌, nat_le}
 use Rattle.lines.specs.Meaning.{Meaning}
 

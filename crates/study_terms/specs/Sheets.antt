@@ -1,19 +1,19 @@
 -- Where the numbers of a study lie in its sheets, and what a sheet means there. A sheet is a list of rows of parts; N is a kind of number with
 -- the values A, s is the shape of the study. Assumes nothing.
 --
---   blank               what lies past the end of a sheet: a row that no number is written in
---   zero_row            the row in which every kind writes 0
---   at N t j            the number that the sheet t means at place j: what the kind reads in that row
---   Written N x row     row is the one in which the value that means x is written
---   exact_line N m      the line m in exact numbers
---   gains_place s n i c     the place of column c in the row of input i at stop n: zeros, the pivot, and then the factors
---   value_place_lem s n a c     the place of P a c at stop n
---   x_place s n j           the place of lateness j at stop n; u_place s n i: that of adjustment i
---   gains_at, value_at, x_at, u_at    what a sheet means there
---   state_list s x          (x, 1) as numbers of the kind; stacked_list s u x: (u, x, 1)
---   Cleared need was now    the first `need` rows of a sheet are zero now, and the others are as they were
---   Surplus need was now    the rows from `need` on are as they were
---   Gains N m sheet         the sheet has the zeros, pivots and factors of every stop of the line m, and P of every stop, whole
+--   blank                            what lies past the end of a sheet: a row that no number is written in
+--   zero_row                         the row in which every kind writes 0
+--   at N t j                         the number that the sheet t means at place j: what the kind reads in that row
+--   Written N x row                  row is the one in which the value that means x is written
+--   exact_line N m                   the line m in exact numbers
+--   gains_place s n i c              the place of column c in the row of input i at stop n: zeros, the pivot, and then the factors
+--   value_place_lem s n a c          the place of P a c at stop n
+--   x_place s n j                    the place of lateness j at stop n; u_place s n i: that of adjustment i
+--   gains_at, value_at, x_at, u_at   what a sheet means there
+--   state_list s x                   (x, 1) as numbers of the kind; stacked_list s u x: (u, x, 1)
+--   Cleared need was now             the first `need` rows of a sheet are zero now, and the others are as they were
+--   Surplus need was now             the rows from `need` on are as they were
+--   Gains N m sheet                  the sheet has the zeros, pivots and factors of every stop of the line m, and P of every stop, whole
 use Rattle.std.specs.Prelude.{◌≡◌, ℕ, suc, ◌+◌, ◌*◌, ◌<◌, ◌≤◌, List, length, pos, slice_index_or}
 use Rattle.control.specs.Line.{Line}
 use Rattle.control.specs.Matrix.{join}

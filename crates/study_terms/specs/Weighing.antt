@@ -2,16 +2,16 @@
 -- pivots and factors), so they depend on the line alone. N is a kind of number with the values A, m the line. Assumes nothing.
 --
 --   T_formula, M_formula, factor_formula, loss_formula   how a number of steps 1 and 2, a factor, and what an entry of M becomes are worked
---   last_stop m         step 0: P at the last stop is G, asked by its upper half
---   product_step m n    step 1 at stop n: T = P F, row by row
---   sum_step m n        step 2: M = G + Fᵀ T, its upper half row by row
---   input_step m n i    step 3 for input i: its pivot, its factors, and what the rows below it lose
---   stop_steps m n      steps 1 to 3 at stop n
---   weigh_steps m       step 0, and then the stops from the last but one down
---   weigh_tests m g h   11: the sizes are beyond the limits; 12: the gains sheet, of g rows, is short; 13: so is the scratch sheet, of h rows
---   weigh_checks m g h  the tests and then the steps
---   WeighGranted ..    the line is weighed: the gains sheet has its numbers, the scratch sheet is zero, and no surplus is written
---   WeighRefused ..    a test refuses and nothing is written, or a step refuses and what both sheets need is zero
+--   last_stop m                                          step 0: P at the last stop is G, asked by its upper half
+--   product_step m n                                     step 1 at stop n: T = P F, row by row
+--   sum_step m n                                         step 2: M = G + Fᵀ T, its upper half row by row
+--   input_step m n i                                     step 3 for input i: its pivot, its factors, and what the rows below it lose
+--   stop_steps m n                                       steps 1 to 3 at stop n
+--   weigh_steps m                                        step 0, and then the stops from the last but one down
+--   weigh_tests m g h                                    11: the sizes are beyond the limits; 12: the gains sheet, of g rows, is short; 13: so is the scratch sheet, of h rows
+--   weigh_checks m g h                                   the tests and then the steps
+--   WeighGranted ..                                      the line is weighed: the gains sheet has its numbers, the scratch sheet is zero, and no surplus is written
+--   WeighRefused ..                                      a test refuses and nothing is written, or a step refuses and what both sheets need is zero
 use Rattle.std.specs.Prelude.{◌≡◌, ℕ, suc, ◌-◌, List, length, nat_le}
 use Rattle.control.specs.Recursion.{P, T, reduced_M, pivot, factor}
 use Rattle.numbers.specs.declared.Number.{Ghosts}

@@ -1,6 +1,6 @@
 -- A trail that follows an account: its lateness, its adjustments, and so what is paid and what is in excess. Assumes nothing.
 --
---   Follows trail a     the trail has the lateness of the account a at each stop up to its own, and the adjustments made before it
+--   Follows trail a   the trail has the lateness of the account a at each stop up to its own, and the adjustments made before it
 use Rattle.std.proofs.Common.{◌≡◌, ℕ, zero, suc, ◌+◌, ◌-◌, ◌*◌, ◌<◌, ◌≤◌, ◌≢◌, List, sym, refl, ap, ◌∙◌, subst, ap₂, mul-le-mul_right, suc-mul, arith}
 use native.Mathlib.Decide.{ℕ_discrete}
 use Rattle.algebra.specs.Field.{OrderedField}

@@ -1,6 +1,6 @@
 -- What every step keeps, and so every run. Assumes nothing.
 --
---   Inv v               where a study stands in a run: what holds of its gains sheet, its trail and its ledger at each stage
+--   Inv v   where a study stands in a run: what holds of its gains sheet, its trail and its ledger at each stage
 use Rattle.std.proofs.Common.{◌≡◌, ℕ, suc, ◌<◌, ◌≤◌, not, T, eqb, ◌≢◌, List, refl, ap, subst, ap₂, arith, eq-eqb}
 use Rattle.control.specs.Line.{Line}
 use Rattle.control.specs.Recursion.{PositivePivots}

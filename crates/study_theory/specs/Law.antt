@@ -1,19 +1,19 @@
 -- What holds of every run of a study, in exact numbers, from the line and the ledger alone. N is a kind of number with the values A, m the line
 -- of the run. Assumes nothing.
 --
---   late m a            the lateness where the account a stands
---   confirmed_cost m a  the cost of the confirmed stops
---   confirmed_excess m a    the sum over the confirmed adjustments of pivot × gap²
---   AccountLaw m v a   what holds of the account a in the world v, from begin until abandon or close
---   Granted r           the reply r is none of a refusal
---   WorldLaw m v       what holds in the world v
---   Decided N           every call's checks pass or are refused, not both, and with one refusal only: so a call is granted exactly where no
---                       refusal is named
---   Accepts m           a weigh that ends in acceptance or in the refusal of a pivot accepts exactly when some start has one list of
---                       adjustments cheaper than all others
---   StudyLaw N m find  all of this, of every run; and a train that stands in several feeds weighs once: for every list of byte strings read
---                       in turn into a new book, granted or refused, the trains layer over every line, under any pile of layers, adds the
---                       weight of each stop and label of the granted feeds once. `find` is the kind's search for the value of a number
+--   late m a               the lateness where the account a stands
+--   confirmed_cost m a     the cost of the confirmed stops
+--   confirmed_excess m a   the sum over the confirmed adjustments of pivot × gap²
+--   AccountLaw m v a       what holds of the account a in the world v, from begin until abandon or close
+--   Granted r              the reply r is none of a refusal
+--   WorldLaw m v           what holds in the world v
+--   Decided N              every call's checks pass or are refused, not both, and with one refusal only: so a call is granted exactly where no
+--                          refusal is named
+--   Accepts m              a weigh that ends in acceptance or in the refusal of a pivot accepts exactly when some start has one list of
+--                          adjustments cheaper than all others
+--   StudyLaw N m find      all of this, of every run; and a train that stands in several feeds weighs once: for every list of byte strings read
+--                          in turn into a new book, granted or refused, the trains layer over every line, under any pile of layers, adds the
+--                          weight of each stop and label of the granted feeds once. `find` is the kind's search for the value of a number
 use Rattle.std.specs.Prelude.{◌≡◌, ℕ, ◌<◌, ◌≤◌, ◌≢◌, ◌⊎◌, ◌↔◌, List, ℤ, Option}
 use Rattle.control.specs.Line.{Line, lateness}
 use Rattle.control.specs.Line as line

@@ -1,18 +1,18 @@
 -- Whole runs of a study: its calls one after the other, each granted or refused, and the ledger that the statements keep. N is a kind of number
 -- with the values A, m the line of the run. Assumes nothing.
 --
---   Stage               where a study is: new, weighed, underway at a stop, ordered at a stop
---   Account             a start, how many stops are confirmed since (stop), and the adjustments made at each (made)
---   Ledger              empty, or an account that is entered; it is told the arguments of calls and whether they were granted, and nothing else
---   begun N x           the account that begins with the start x; confirmed a u: with the adjustments u at one stop more
---   Call                one of the ten calls with its arguments other than the line, the gains sheet and the trail
---   Reply               done, the number told, the slip written, or the fault of a refusal
---   World N             stage, gains sheet, trail and ledger
---   Asks N m gains trail stage c d    in this stage the call c may be made, and with this line and these sheets it makes the checks d
---   Allowed stage c     in this stage the call c may be made
---   Step N m v w c r    the call c, replied to by r, leads from the world v to w. Granted calls share the line m, the gains sheet and the trail
---                       of the run; a refused one may have got a line and sheets of its own, and is refused by its checks on these
---   Run N m h v         the steps of h, the newest first, lead from a new study to v
+--   Stage                            where a study is: new, weighed, underway at a stop, ordered at a stop
+--   Account                          a start, how many stops are confirmed since (stop), and the adjustments made at each (made)
+--   Ledger                           empty, or an account that is entered; it is told the arguments of calls and whether they were granted, and nothing else
+--   begun N x                        the account that begins with the start x; confirmed a u: with the adjustments u at one stop more
+--   Call                             one of the ten calls with its arguments other than the line, the gains sheet and the trail
+--   Reply                            done, the number told, the slip written, or the fault of a refusal
+--   World N                          stage, gains sheet, trail and ledger
+--   Asks N m gains trail stage c d   in this stage the call c may be made, and with this line and these sheets it makes the checks d
+--   Allowed stage c                  in this stage the call c may be made
+--   Step N m v w c r                 the call c, replied to by r, leads from the world v to w. Granted calls share the line m, the gains sheet and the trail
+--                                    of the run; a refused one may have got a line and sheets of its own, and is refused by its checks on these
+--   Run N m h v                      the steps of h, the newest first, lead from a new study to v
 use Rattle.std.specs.Prelude.{◌≡◌, ℕ, suc, List, [], ◌∷◌, length}
 use Rattle.control.specs.Matrix.{put}
 use Rattle.numbers.specs.declared.Number.{Ghosts}

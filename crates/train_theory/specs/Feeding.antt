@@ -1,9 +1,9 @@
 -- Byte strings read in turn into a new book. Assumes nothing.
 --
---   ReadInTurn texts fs b   the byte strings texts, in turn, were read into a new book, each granted or refused; fs are the feeds of the
+--   ReadInTurn texts fs b     the byte strings texts, in turn, were read into a new book, each granted or refused; fs are the feeds of the
 --                             granted ones, in turn, and the book is now b
 --   granted_feed bs b c r g   the feed whose text bs was granted, as a list of one; none of a refusal
---   EachOnce fs ts           the trains that occur in the feeds fs are ts, each once: no stop and label stands in ts twice, each train of ts
+--   EachOnce fs ts            the trains that occur in the feeds fs are ts, each once: no stop and label stands in ts twice, each train of ts
 --                             is one of a feed, with the values that its text gives, and each stop and label of a feed stands in ts
 use Rattle.std.specs.Prelude.{ℕ, List, [], ◌∷◌, ◌++◌, Ok, Err, Result}
 use Rattle.std.specs.List.{ContainsAt as Has}

@@ -1,9 +1,9 @@
 -- Layers over a line, and what they make of a cost. Assumes nothing.
 --
---   Layer                     aims, from a list of them, or a book of trains, whatever its sizes
---   laid value find l b       the line with the layer l over the line b
---   piled value find ls b     the line with the layers ls over b, the lowest first
---   Cost D                    a cost at a stop, as a function of the adjustments and the lateness
+--   Layer                         aims, from a list of them, or a book of trains, whatever its sizes
+--   laid value find l b           the line with the layer l over the line b
+--   piled value find ls b         the line with the layers ls over b, the lowest first
+--   Cost D                        a cost at a stop, as a function of the adjustments and the lateness
 --   plus_trains good b ts i n c   the cost c at stop n of the line b, with i adjustments, plus that of the trains ts
 --   layer_cost good b l i n c     what the layer l makes of c: it is taken at the lateness less the aims, or the trains that count on b are added
 --   piled_cost good b ls i n c    what the layers ls make of c

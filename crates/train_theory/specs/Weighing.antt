@@ -1,9 +1,9 @@
 -- The trains that occur in the granted feeds weigh on a line, each once. Assumes nothing.
 --
---   exact_line good value m          the line m in exact numbers
---   CostsMade good value l b make   at every stop that the line l holds its cost is `make i n c`, where c is the cost of the line b at that stop n,
---                                    and i is how many adjustments are made there: all before the last stop, none at it; and lateness
---                                    travels as on b
+--   exact_line good value m           the line m in exact numbers
+--   CostsMade good value l b make     at every stop that the line l holds its cost is `make i n c`, where c is the cost of the line b at that stop n,
+--                                     and i is how many adjustments are made there: all before the last stop, none at it; and lateness
+--                                     travels as on b
 --   TrainsWeighOnce good value find   of any line b that is lawful, and of any layers:
 --       layers     layers over b make of its cost what each of them does in turn
 --       listed     byte strings read in turn into a new book have a list of the trains that occur in the granted feeds, each once

@@ -1,12 +1,12 @@
 -- What a book of trains makes of the costs, in exact numbers. Assumes nothing.
 --
---   gap D nx nu t u x         late × lateness + move × adjustments − aim of the train t
---   train_cost .. n t u x     weight × gap² where the train stands at stop n, else 0
---   book_cost .. n ts u x     the sum of these over the trains of the book, each once
---   Adds good value l b ts    the line l has the costs of the line b plus those of the trains ts, at every stop that it holds, the last one
---                             included, where no adjustment is made; and lateness travels as on b
+--   gap D nx nu t u x                   late × lateness + move × adjustments − aim of the train t
+--   train_cost .. n t u x               weight × gap² where the train stands at stop n, else 0
+--   book_cost .. n ts u x               the sum of these over the trains of the book, each once
+--   Adds good value l b ts              the line l has the costs of the line b plus those of the trains ts, at every stop that it holds, the last one
+--                                       included, where no adjustment is made; and lateness travels as on b
 --   ShiftsAndAdds good value l b t ts   the line l, aims t and trains ts over the line b: its cost is that of b at the lateness less the
---                             aims, plus that of the trains
+--                                       aims, plus that of the trains
 use Rattle.std.specs.Prelude.{◌≡◌, ℕ, ◌<◌, cond, List, ℤ, pos, fold, ◌==◌}
 use Rattle.algebra.specs.Exact.{Exact, Radicand, whole_e, zero_e, add_e, neg_e, mul_e}
 use Rattle.algebra.proofs.ExactField.{exact_field}

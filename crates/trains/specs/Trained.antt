@@ -1,12 +1,12 @@
 -- The line with a book of trains over the line below. Assumes nothing.
 --
---   same_sizes s b          the sizes s are those of the line b
---   weighs o b              the book has sizes, and they are those of the line: its trains count
---   Fits o b                the book has no sizes, and so no trains, or they are those of the line
---   counting r b            the trains of the book r that count on the line b: all where it weighs, else none
+--   same_sizes s b               the sizes s are those of the line b
+--   weighs o b                   the book has sizes, and they are those of the line: its trains count
+--   Fits o b                     the book has no sizes, and so no trains, or they are those of the line
+--   counting r b                 the trains of the book r that count on the line b: all where it weighs, else none
 --   trains_line value find r b   the line with the book r over the line b: where the book weighs, each place of G is the entry below plus the
---                           sum over the trains of the stop; all else is as below
---   fit_fault f             the number of the refusal: 7
+--                                sum over the trains of the stop; all else is as below
+--   fit_fault f                  the number of the refusal: 7
 use Rattle.std.specs.Prelude.{◌≡◌, ℕ, suc, ◌-◌, min, max, Bool, true, false, cond, ◌&&◌, List, [], ℤ, Some, None, Option, ◌==◌, nat_lt}
 use Rattle.algebra.specs.Exact.{Exact, whole_e, add_e}
 use Rattle.lines.specs.Kinds.{entry_of}

@@ -1,10 +1,10 @@
 -- The factors of a train, and the whole-number sums over a book. Assumes nothing.
 --
---   factor first nx t a     the factor of place a of the list (adjustments, lateness, 1), whose lateness begins at `first`, in the gap of
---                           the train t: its move, its late, and minus its aim
---   share first nx t a c    what t adds to the entry a, c of the cost: weight × factor of a × factor of c
---   weighed n first nx ts a c    the sum of these over the trains of ts that stand at stop n
---   SumsFit ts             every such sum is at most 64 × 999³ in size, so that it fits a word with room to spare
+--   factor first nx t a         the factor of place a of the list (adjustments, lateness, 1), whose lateness begins at `first`, in the gap of
+--                               the train t: its move, its late, and minus its aim
+--   share first nx t a c        what t adds to the entry a, c of the cost: weight × factor of a × factor of c
+--   weighed n first nx ts a c   the sum of these over the trains of ts that stand at stop n
+--   SumsFit ts                  every such sum is at most 64 × 999³ in size, so that it fits a word with room to spare
 use Rattle.std.specs.Prelude.{ℕ, ◌*◌, ◌≤◌, cond, List, ℤ, pos, ◌+ℤ◌, ◌*ℤ◌, neg_ℤ, fold, ◌==◌, unsigned_abs}
 use Rattle.control.specs.Matrix.{join}
 use Rattle.lines.specs.Whole.{cell}
