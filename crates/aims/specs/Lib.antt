@@ -6,4 +6,6 @@
 pub mod Entries
 pub mod Aimed
 pub mod Shifting
+-- From here on lemmas: the laws of the layer follow from them, and a term of src/ that shows a law cannot cite proofs/. They are proved; a reader need
+-- not believe them.
 pub mod Layered

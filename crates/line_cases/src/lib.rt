@@ -5,7 +5,7 @@ ghost use Rattle.std.specs.Prelude.{◌≡◌};
 ghost use Rattle.line_cases.specs.Bare.{bare_line, zeros};
 ghost use Rattle.lines.specs.Whole.{whole_F, whole_G};
 ghost use Rattle.numbers.specs.Fractions.{fraction_value};
-ghost use Rattle.numbers.specs.FractionKind as ProofsFractionKind;
+ghost use Rattle.numbers.specs.FractionKind;
 ghost use Rattle.lines.specs.Fractions.{find_fraction};
 ghost use Rattle.lines.specs.FractionsLemmas.{fraction_finds};
 ghost use Rattle.lines.specs.WholeLines.{whole_lawful, whole_levelled};
@@ -47,9 +47,9 @@ impl Line for Plain {
 
     ghost meaning = { λ s. bare_line s.stops s.states s.inputs };
 
-    ghost lawful = { λ s. whole_lawful fraction_value find_fraction fraction_finds ProofsFractionKind.wholes s.stops s.states s.inputs zeros zeros };
+    ghost lawful = { λ s. whole_lawful fraction_value find_fraction fraction_finds FractionKind.wholes s.stops s.states s.inputs zeros zeros };
 
-    ghost levelled = { λ s. whole_levelled fraction_value find_fraction fraction_finds ProofsFractionKind.wholes s.stops s.states s.inputs zeros zeros };
+    ghost levelled = { λ s. whole_levelled fraction_value find_fraction fraction_finds FractionKind.wholes s.stops s.states s.inputs zeros zeros };
 
     fn stops(&self) -> usize {
         self.stops

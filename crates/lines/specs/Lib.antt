@@ -18,6 +18,8 @@ pub mod Steadies
 pub mod Opening
 pub mod Fractions
 pub mod Roots
+-- From here on lemmas: the laws of the implementations follow from them, and a term of src/ that shows a law cannot cite proofs/. They are proved;
+-- a reader need not believe them.
 pub mod FractionsLemmas
 pub mod RootsLemmas
 pub mod Steadied

@@ -1,6 +1,6 @@
 // The states of a study. Each is plain numbers: the sizes of the line, and the stop where the study stands. The sheets are the caller's, and
 // are passed to each call.
-ghost use Rattle.std.specs.Prelude.{◌≡◌};
+ghost use Rattle.std.specs.Prelude.{◌≡◌, IsTrue};
 
 use std::marker::PhantomData;
 use study_terms::sizes::Sizes;
@@ -33,9 +33,10 @@ pub struct Ordered<N> {
     pub(super) kind: PhantomData<N>,
 }
 
-// The token of a proposed plan. Only confirm and withdraw spend it.
+// The token of a proposed plan. Only confirm and withdraw spend it, and only a spent one is let go.
 pub struct Order {
     stop: usize,
+    spent: bool,
 }
 
 impl<N> Ordered<N> {
@@ -51,28 +52,32 @@ impl<N> Ordered<N> {
 
 impl Order {
     pub(super) fn given(stop: usize) -> Order {
-        Order { stop }
+        Order { stop, spent: false }
     }
 
-    pub(super) fn spend(self) {
-        let Order { stop: _ } = self;
+    pub(super) fn spend(mut self) {
+        self.spent = true;
     }
 }
 
 impl Drop for Order {
-    // An order is never let go: nobody can meet this.
+    // An order that is out is never let go: what would have to hold is that it is spent.
     fn drop(self)
-        requires { ⊥ }
+        requires { IsTrue self.spent }
     {
-        self.spend();
+        let Order { stop: _, spent: _ } = self;
     }
 }
 
 impl<N> Drop for Ordered<N> {
     // A study with an order that is out is never let go: confirm the order, or withdraw it.
     fn drop(self)
-        requires { ⊥ }
+        requires { IsTrue self.order.spent }
     {
-        self.settle();
+        let Ordered {
+            at: _,
+            order: _,
+            kind: _,
+        } = self;
     }
 }
