@@ -9,7 +9,7 @@ use Rattle.lines.specs.Whole.{cell}
 use Rattle.algebra.proofs.Booleans.{and_split}
 use Rattle.lines.specs.WholeLines.{unless, either}
 use Rattle.lines.specs.declared.faults.Mark.{Mark}
-use Rattle.aims.specs.Aimed.{aim, column, column_less_lem, corner, corner_less_lem}
+use Rattle.aims.specs.Aimed.{aim, column, column_less, corner, corner_less}
 use Rattle.aims.specs.Entries.{after}
 
 -- past the states there is no aim
@@ -40,16 +40,16 @@ no_aims n k = either (λ (z : ℤ). z ≡ pos 0) (ltb n 25 && ltb k 4) (cell (re
     zero_cell m i = elim (dec_lt i m) [ yes l ↦ get_or-replicate m i (pos 0) (pos 0) l | no h ↦ get_or_past (replicate m (pos 0)) i (pos 0) (omega (arith, length-replicate m (pos 0))) ]
 
 module _ {A : Type 0} {D : ℕ} (value : A → Exact D) (find : ℤ → ℤ → ℕ → Option A) (t : ℕ → ℕ → ℤ) (b : Meaning A) (m : Mark) (n last first : ℕ) where
-  pub column_more : (a k : ℕ) (s : A) (r : Entry A) → column value find t b m n a last first k ≡ holds s → column_less_lem value find t b m n a first k s ≡ r → column value find t b m n a last first (k + 1) ≡ r
+  pub column_more : (a k : ℕ) (s : A) (r : Entry A) → column value find t b m n a last first k ≡ holds s → column_less value find t b m n a first k s ≡ r → column value find t b m n a last first (k + 1) ≡ r
   column_more a k s r h p =
-      subst (λ (j : ℕ). column value find t b m n a last first j ≡ r) (sym (add-one k)) (after_holds (column value find t b m n a last first k) (column_less_lem value find t b m n a first k) s r h p)
+      subst (λ (j : ℕ). column value find t b m n a last first j ≡ r) (sym (add-one k)) (after_holds (column value find t b m n a last first k) (column_less value find t b m n a first k) s r h p)
 
   pub column_stays : (a k j : ℕ) (e : Mark) → k ≤ j → column value find t b m n a last first k ≡ marked e → column value find t b m n a last first j ≡ marked e
-  column_stays a k j e = stays (column value find t b m n a last first) (λ i d. after_marked (column value find t b m n a last first i) (column_less_lem value find t b m n a first i) d) k j e
+  column_stays a k j e = stays (column value find t b m n a last first) (λ i d. after_marked (column value find t b m n a last first i) (column_less value find t b m n a first i) d) k j e
 
-  pub corner_more : (k : ℕ) (s : A) (r : Entry A) → corner value find t b m n last first k ≡ holds s → corner_less_lem value find t b m n last first k s ≡ r → corner value find t b m n last first (k + 1) ≡ r
+  pub corner_more : (k : ℕ) (s : A) (r : Entry A) → corner value find t b m n last first k ≡ holds s → corner_less value find t b m n last first k s ≡ r → corner value find t b m n last first (k + 1) ≡ r
   corner_more k s r h p =
-      subst (λ (j : ℕ). corner value find t b m n last first j ≡ r) (sym (add-one k)) (after_holds (corner value find t b m n last first k) (corner_less_lem value find t b m n last first k) s r h p)
+      subst (λ (j : ℕ). corner value find t b m n last first j ≡ r) (sym (add-one k)) (after_holds (corner value find t b m n last first k) (corner_less value find t b m n last first k) s r h p)
 
   pub corner_stays : (k j : ℕ) (e : Mark) → k ≤ j → corner value find t b m n last first k ≡ marked e → corner value find t b m n last first j ≡ marked e
-  corner_stays k j e = stays (corner value find t b m n last first) (λ i d. after_marked (corner value find t b m n last first i) (corner_less_lem value find t b m n last first i) d) k j e
+  corner_stays k j e = stays (corner value find t b m n last first) (λ i d. after_marked (corner value find t b m n last first i) (corner_less value find t b m n last first i) d) k j e

@@ -31,23 +31,23 @@ states_aimed nx = min nx 4
 
 module _ {A : Type 0} {D : ℕ} (value : A → Exact D) (find : ℤ → ℤ → ℕ → Option A) (t : ℕ → ℕ → ℤ) (b : Meaning A) where
   -- s less the entry of row a and state j times its aim
-  abbrev pub column_less_lem : Mark → ℕ → ℕ → ℕ → ℕ → A → Entry A
-  column_less_lem m n a first j s = after (b.G n a (first + j)) (λ e. less value find m s e (t n j))
+  abbrev pub column_less : Mark → ℕ → ℕ → ℕ → ℕ → A → Entry A
+  column_less m n a first j s = after (b.G n a (first + j)) (λ e. less value find m s e (t n j))
 
   abbrev pub column : Mark → ℕ → ℕ → ℕ → ℕ → ℕ → Entry A
   column m n a last first zero = b.G n a last
-  column m n a last first (suc j) = after (column m n a last first j) (column_less_lem m n a first j)
+  column m n a last first (suc j) = after (column m n a last first j) (column_less m n a first j)
 
   -- s less the new and the old entry of state j and the constant, times its aim
-  abbrev pub corner_less_lem : Mark → ℕ → ℕ → ℕ → ℕ → A → Entry A
-  corner_less_lem m n last first j s =
+  abbrev pub corner_less : Mark → ℕ → ℕ → ℕ → ℕ → A → Entry A
+  corner_less m n last first j s =
       after (column m n (first + j) last first (states_aimed b.nx)) (λ new.
       after (b.G n (first + j) last) (λ old.
       after (entry_of find m (add_e (value new) (value old))) (λ both. less value find m s both (t n j))))
 
   abbrev pub corner : Mark → ℕ → ℕ → ℕ → ℕ → Entry A
   corner m n last first zero = b.G n last last
-  corner m n last first (suc j) = after (corner m n last first j) (corner_less_lem m n last first j)
+  corner m n last first (suc j) = after (corner m n last first j) (corner_less m n last first j)
 
   -- of a place in the constant's row or column, by its row above the diagonal
   abbrev pub bordered : Mark → ℕ → ℕ → ℕ → Entry A

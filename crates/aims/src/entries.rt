@@ -1,7 +1,7 @@
 // Aims over a line are a line.
 ghost use Rattle.std.specs.Prelude.{◌≡◌, ◌+◌, ◌-◌, ◌^◌, ◌<◌, ◌≤◌};
 ghost use Rattle.lines.specs.Meaning.{Answer};
-ghost use Rattle.aims.specs.Aimed.{aim, aims_line, column, column_less_lem, corner, corner_less_lem, states_aimed};
+ghost use Rattle.aims.specs.Aimed.{aim, aims_line, column, column_less, corner, corner_less, states_aimed};
 ghost use Rattle.aims.specs.Entries.{less};
 ghost use Rattle.aims.specs.Layered.{aims_lawful, aims_levelled};
 
@@ -32,7 +32,7 @@ impl<L: Line> Aims<L> {
         mark: Mark,
     ) -> Result<L::Number, LineFault>
         requires { first + k < 2 ^ 64 }
-        ensures { Answer (column_less_lem L.Number.Number.value L.Number.Kind.find (aim self.now.aims) (L.Line.meaning self.now.below) mark stop row first k sum) result }
+        ensures { Answer (column_less L.Number.Number.value L.Number.Kind.find (aim self.now.aims) (L.Line.meaning self.now.below) mark stop row first k sum) result }
     {
         let entry = self.below.g(stop, row, first + k)?;
         lessened(sum, entry, self.aim(stop, k), mark)
@@ -69,7 +69,7 @@ impl<L: Line> Aims<L> {
     ) -> Result<L::Number, LineFault>
         requires states { (L.Line.meaning self.now.below).nx ≤ last }
         requires state { k < (L.Line.meaning self.now.below).nx }
-        ensures { Answer (corner_less_lem L.Number.Number.value L.Number.Kind.find (aim self.now.aims) (L.Line.meaning self.now.below) mark stop last (last - (L.Line.meaning self.now.below).nx) k sum) result }
+        ensures { Answer (corner_less L.Number.Number.value L.Number.Kind.find (aim self.now.aims) (L.Line.meaning self.now.below) mark stop last (last - (L.Line.meaning self.now.below).nx) k sum) result }
     {
         let row = last - self.below.states() + k;
         let new = self.column(stop, row, last, mark)?;

@@ -1,7 +1,7 @@
 -- Worked examples of exact numbers. Assumes nothing.
 --
---   Examples   ((1 + √5)/2)² = (3 + √5)/2, its inverse is (−1 + √5)/2, 1/6 + 1/3 = 1/2;
---                   (3 − √5)/2 is positive, (1 − √5)/2 is not
+--   Examples      ((1 + √5)/2)² = (3 + √5)/2, its inverse is (−1 + √5)/2, 1/6 + 1/3 = 1/2;
+--                 (3 − √5)/2 is positive, (1 − √5)/2 is not
 --   step P        1 + P − P²/(1 + P), one stop of the plainest line
 --   ElevenSteps   eleven steps from 1 give 46368/28657, in fractions and in numbers with √5 alike
 use Rattle.std.specs.Prelude.{◌≡◌, ℕ, zero, suc, pos, negsuc}

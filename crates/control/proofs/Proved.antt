@@ -11,12 +11,12 @@ use Rattle.control.proofs.UpperHalf.{upper_half_lem}
 
 pub theory : (K : OrderedField) (L : Line K) → Lawful L → Theory L
 theory K L lawful = record {
-  one_stop_lem = one_stop_lem L lawful;
-  along_a_list_lem = along_a_list_lem L lawful;
+  one_stop = one_stop_lem L lawful;
+  along_a_list = along_a_list_lem L lawful;
   account = account L lawful;
-  best_plan_lem = best_plan_lem L lawful;
+  best_plan = best_plan_lem L lawful;
   least_account = least_account L lawful;
-  failing_pivot_lem = failing_pivot_lem L lawful;
-  zero_residuals_lem = zero_residuals_lem L lawful;
-  upper_half_lem = upper_half_lem L lawful;
+  failing_pivot = failing_pivot_lem L lawful;
+  zero_residuals = zero_residuals_lem L lawful;
+  upper_half = upper_half_lem L lawful;
 }

@@ -1,13 +1,13 @@
 -- Lists and matrices as functions of indices, with sums below a bound. Assumes nothing.
 --
---   sum K n f            f 0 + .. + f (n − 1)
---   apply K w A z a      row a of A times z: the sum over c < w of A a c · z c
---   form K w A z         the quadratic form: the sum over a, c < w of A a c · z a · z c
---   product K m A B      the matrix product: entry a, c is the sum over k < m of A a k · B k c
---   join m f g           the list f 0, .., f (m − 1), g 0, g 1, ..
---   put i v z            the list z with v in place i
---   Symmetric K w A      A a c = A c a for all a, c < w
---   SameUpper K w i A B A and B have the same entries on and above the diagonal, from row i on: where i ≤ a ≤ c < w
+--   sum K n f             f 0 + .. + f (n − 1)
+--   apply K w A z a       row a of A times z: the sum over c < w of A a c · z c
+--   form K w A z          the quadratic form: the sum over a, c < w of A a c · z a · z c
+--   product K m A B       the matrix product: entry a, c is the sum over k < m of A a k · B k c
+--   join m f g            the list f 0, .., f (m − 1), g 0, g 1, ..
+--   put i v z             the list z with v in place i
+--   Symmetric K w A       A a c = A c a for all a, c < w
+--   SameUpper K w i A B   A and B have the same entries on and above the diagonal, from row i on: where i ≤ a ≤ c < w
 use Rattle.std.specs.Prelude.{◌≡◌, ℕ, zero, suc, ◌<◌, ◌≤◌}
 use Rattle.algebra.specs.Field.{OrderedField}
 

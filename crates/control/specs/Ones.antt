@@ -8,7 +8,7 @@
 --   two_stops                the ones line over the fractions, with N = 2
 --   ten, minus_five          the start, and what is confirmed at stop 0
 --   OnesLine                 what the definitions give for two stops, from lateness 10: the plan, and what confirming −5 costs
-use Rattle.std.specs.Prelude.{◌≡◌, refl, cond, ℕ, zero, suc, ltb, ℤ, pos, neg_ℤ}
+use Rattle.std.specs.Prelude.{◌≡◌, refl, cond, ℕ, zero, suc, nat_lt, ℤ, pos, neg_ℤ}
 use Rattle.std.proofs.Common.{inl}
 use Rattle.algebra.specs.Field.{OrderedField}
 use Rattle.algebra.specs.Exact.{Exact, exact}
@@ -34,7 +34,7 @@ rule K (suc k) (suc zero) = K.𝟘
 rule K (suc k) (suc (suc c)) = K.𝟙
 
 abbrev pub ones : (K : OrderedField) → ℕ → Line K
-ones K e = record { nu = 1; nx = 1; end = e; F = λ n. rule K; G = λ n. squares K (cond (ltb n e) 2 1) }
+ones K e = record { nu = 1; nx = 1; end = e; F = λ n. rule K; G = λ n. squares K (cond (nat_lt n e) 2 1) }
 
 abbrev pub fractions : OrderedField
 fractions = exact_field 0 (inl refl)

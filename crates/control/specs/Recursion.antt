@@ -1,21 +1,21 @@
 -- The backward recursion: from the last stop to the first, each stop's matrix with its inputs eliminated. Assumes nothing.
 --
---   T_of L n P           P times F at n, for a matrix P of the next stop
---   M_of L n P           G at n plus F transposed times that product
---   P_over L h n         P at stop n, where h stops lie from n on before the last
---   P L n                P at stop n: the matrix of the value there, over (x, 1)
---   T L n                the product of P at n + 1 and F at n
---   M L n                G at n + Fᵀ T: the matrix of stop n and all that follows, over (u, x, 1)
---   reduced_M L n i      M at n with its inputs 0 .. i − 1 eliminated
---   pivot L n i          the pivot of input i at stop n
---   factor L n i c       the factor of column c in the row of input i at stop n: that row over its pivot
---   value L n x          the value of lateness x at stop n: the form of P at n, taken at (x, 1)
---   gap L n i u x        the gap of input i: u i plus the sum of its factors times what comes after it in (u, x, 1)
---   stop_excess L n u x  the sum over the inputs of pivot × gap²
---   excess L k n us x    the sum of these over the k stops from n on
---   NonzeroPivots L n e no pivot is zero at the stops from n on, before e
---   PositivePivots L n   every pivot is positive from stop n to the end
---   Fails L b i          the recursion meets its first pivot that is not positive at stop b, input i
+--   T_of L n P            P times F at n, for a matrix P of the next stop
+--   M_of L n P            G at n plus F transposed times that product
+--   P_over L h n          P at stop n, where h stops lie from n on before the last
+--   P L n                 P at stop n: the matrix of the value there, over (x, 1)
+--   T L n                 the product of P at n + 1 and F at n
+--   M L n                 G at n + Fᵀ T: the matrix of stop n and all that follows, over (u, x, 1)
+--   reduced_M L n i       M at n with its inputs 0 .. i − 1 eliminated
+--   pivot L n i           the pivot of input i at stop n
+--   factor L n i c        the factor of column c in the row of input i at stop n: that row over its pivot
+--   value L n x           the value of lateness x at stop n: the form of P at n, taken at (x, 1)
+--   gap L n i u x         the gap of input i: u i plus the sum of its factors times what comes after it in (u, x, 1)
+--   stop_excess L n u x   the sum over the inputs of pivot × gap²
+--   excess L k n us x     the sum of these over the k stops from n on
+--   NonzeroPivots L n e   no pivot is zero at the stops from n on, before e
+--   PositivePivots L n    every pivot is positive from stop n to the end
+--   Fails L b i           the recursion meets its first pivot that is not positive at stop b, input i
 use Rattle.std.specs.Prelude.{◌≢◌, ℕ, zero, suc, ◌+◌, ◌<◌, ◌≤◌}
 use Rattle.algebra.specs.Field.{OrderedField}
 use Rattle.control.specs.Matrix.{sum, form, product}

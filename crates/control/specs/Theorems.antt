@@ -1,12 +1,12 @@
 -- What is proved of every lawful line, from every stop, lateness and list. Assumes nothing.
 --
---   OneStop L           cost at a stop + value of the next lateness = value of this lateness + sum of pivot × gap²
---   AlongAList L       cost of a list = value at its start + sum of pivot × gap² over its stops and inputs
---   Account L            cost of the confirmed stops + value where they lead = value at the start + excess
---   BestFrom L n x      from stop n and lateness x: the plan costs the value, every other list costs more, the least cost is the value
---   BestPlan L          that holds from every stop on from which all pivots are positive
---   LeastAccount L      cost of the confirmed stops + least cost where they lead = least cost at the start + excess
---   FailingFrom L b i n from stop n: every list has another, its detour at stop b and input i, that costs no more; so none is cheapest
+--   OneStop L              cost at a stop + value of the next lateness = value of this lateness + sum of pivot × gap²
+--   AlongAList L           cost of a list = value at its start + sum of pivot × gap² over its stops and inputs
+--   Account L              cost of the confirmed stops + value where they lead = value at the start + excess
+--   BestFrom L n x         from stop n and lateness x: the plan costs the value, every other list costs more, the least cost is the value
+--   BestPlan L             that holds from every stop on from which all pivots are positive
+--   LeastAccount L         cost of the confirmed stops + least cost where they lead = least cost at the start + excess
+--   FailingFrom L b i n    from stop n: every list has another, its detour at stop b and input i, that costs no more; so none is cheapest
 --   FailingPivot L         that holds before the first pivot that is not positive; such a pivot there is, or all are positive; and all are
 --                          positive exactly when some start has one list cheaper than all others
 --   StationaryFrom L n x   all residuals are zero for the plan with its multipliers, and for nothing else from that start
@@ -97,11 +97,11 @@ module _ {K : OrderedField} (L : Line K) where
         → (A (nu + a) (nu + c) ≡ P L n a c) × (A (nu + a) (nu + c) ≡ P L n c a)
 
   pub record Theory : Type 0 where
-    pub one_stop_lem : OneStop
-    pub along_a_list_lem : AlongAList
+    pub one_stop : OneStop
+    pub along_a_list : AlongAList
     pub account : Account
-    pub best_plan_lem : BestPlan
+    pub best_plan : BestPlan
     pub least_account : LeastAccount
-    pub failing_pivot_lem : FailingPivot
-    pub zero_residuals_lem : ZeroResiduals
-    pub upper_half_lem : UpperHalf
+    pub failing_pivot : FailingPivot
+    pub zero_residuals : ZeroResiduals
+    pub upper_half : UpperHalf

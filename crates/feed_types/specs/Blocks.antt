@@ -7,7 +7,7 @@
 --   NextLine s t i v         some train within the limits of s has the first i lines of t's block, and then a line of value v
 --   BadBlock s rest n e      e refuses the block that begins rest, whose first line is line n: lines of it are those of some train's block,
 --                            and the next one is none of its key, or none that may follow them
-use Rattle.std.specs.Prelude.{◌≡◌, ℕ, ◌+◌, ◌<◌, ◌≤◌, ◌≢◌, List, [], ◌++◌, get_or, take, drop, Some, decimal, Option, slice_index_or}
+use Rattle.std.specs.Prelude.{◌≡◌, ℕ, ◌+◌, ◌<◌, ◌≤◌, ◌≢◌, List, [], ◌++◌, take, drop, Some, decimal, Option, slice_index_or}
 use Rattle.feed_types.specs.declared.faults.FeedFault.{FeedFault}
 use Rattle.feed_types.specs.declared.faults.FeedFault.TheVariants.{TooLong, NoLine, BadValue, OtherSize, OtherValues, BookFull}
 use Rattle.feed_types.specs.declared.keys.Key.{Key}
@@ -67,7 +67,7 @@ pub record NextLine (s : Sizes) (t : Train) (i : ℕ) (v : List ℕ) : Type 0 wh
   pub train : Train
   pub good : GoodTrain s train
   pub same : take i (block s train) ≡ take i (block s t)
-  pub next : get_or (block s train) i [] ≡ line (spelt (slice_index_or block_keys i Aim)) v
+  pub next : slice_index_or (block s train) i [] ≡ line (spelt (slice_index_or block_keys i Aim)) v
 
 pub record BadBlock (s : Sizes) (rest : List ℕ) (n : ℕ) (e : FeedFault) : Type 0 where
   pub i : ℕ

@@ -1,14 +1,14 @@
 -- The one text of a feed. Assumes nothing.
 --
---   Feed                sizes and a list of trains
---   Good f              its sizes and each of its trains keep to the limits
---   decimal n, signed z the digits of a number, with no leading zero, and - before those of a negative one (the library's own)
---   commas zs           whole numbers parted by commas (byte 44)
---   line key value      the bytes key=value and the line's end, byte 10
---   header s, block s t the three lines of the sizes s, the six lines of the train t
---   lines f   all lines of f: the header's, and each train's block in turn
---   text f    these lines in a row
---   ends bs   how many bytes of bs end a line
+--   Feed                          sizes and a list of trains
+--   Good f                        its sizes and each of its trains keep to the limits
+--   decimal n, signed_decimal z   the digits of a number, with no leading zero, and - before those of a negative one (the library's own)
+--   commas zs                     whole numbers parted by commas (byte 44)
+--   line key value                the bytes key=value and the line's end, byte 10
+--   header s, block s t           the three lines of the sizes s, the six lines of the train t
+--   lines f                       all lines of f: the header's, and each train's block in turn
+--   text f                        these lines in a row
+--   ends bs                       how many bytes of bs end a line
 use Rattle.std.specs.Prelude.{ℕ, ◌+◌, cond, List, [], ◌∷◌, ◌++◌, map, take, ℤ, codes, decimal, ◌==◌}
 use Rattle.std.specs.List.{flat_map, join_with_byte, AllByRecursion}
 use Rattle.std.specs.Fmt.{signed_decimal}

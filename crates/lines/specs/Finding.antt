@@ -16,7 +16,7 @@ use Rattle.numbers.specs.declared.NumberFault.{NumberFault}
 use Rattle.numbers.specs.declared.NumberFault.TheVariants.{TooLarge, ZeroDivisor}
 use Rattle.lines.specs.declared.faults.Mark.{Mark}
 use Rattle.lines.specs.declared.faults.Placed.{Placed}
-use Rattle.lines.specs.Kinds.{Found, Finds, lowest_parts_lem, look_up, kept, entry_of, Worked}
+use Rattle.lines.specs.Kinds.{Found, Finds, lowest_parts, look_up, kept, entry_of, Worked}
 use Rattle.lines.specs.Laws.{Means}
 use Rattle.lines.specs.Meaning.{Entry, holds, marked}
 
@@ -48,18 +48,18 @@ same_exact {D} x =
     ∙ agree _ x.im (under_root_lem x) x.im.num (below x) x.im.den (below_pos x) (den_pos x.im) (over_is (under_root_lem x) (below x) (below_pos x)) refl
     (solve₃ ℤ_ring (λ a b c. a :* b :* c ≋ a :* (b :* c)) tt x.im.num (pos x.re.den) (pos x.im.den)))
 
-lowest_is : {D : ℕ} (x : Exact D) → LowestParts D (lowest_parts_lem x).p (lowest_parts_lem x).q (lowest_parts_lem x).m
-unfolding lowest_parts_lem
+lowest_is : {D : ℕ} (x : Exact D) → LowestParts D (lowest_parts x).p (lowest_parts x).q (lowest_parts x).m
+unfolding lowest_parts
 lowest_is {D} x = parts_lowest D (above x) (under_root_lem x) (below x) (below_pos x) (plain D x)
 
-lowest_same : {D : ℕ} (x : Exact D) → exact D (lowest_parts_lem x).p (lowest_parts_lem x).q (lowest_parts_lem x).m ≡ x
-unfolding lowest_parts_lem
+lowest_same : {D : ℕ} (x : Exact D) → exact D (lowest_parts x).p (lowest_parts x).q (lowest_parts x).m ≡ x
+unfolding lowest_parts
 lowest_same {D} x = parts_same D (above x) (under_root_lem x) (below x) (below_pos x) ∙ same_exact x
 
 -- ---- answers are entries
 module _ {A : Type 0} {D : ℕ} (value : A → Exact D) (find : ℤ → ℤ → ℕ → Option A) (finds : Finds value find) where
   pub found : (x : Exact D) → Found value x (look_up find x)
-  found x = subst (λ y. Found value y (look_up find x)) (lowest_same x) (finds (lowest_parts_lem x).p (lowest_parts_lem x).q (lowest_parts_lem x).m (lowest_is x))
+  found x = subst (λ y. Found value y (look_up find x)) (lowest_same x) (finds (lowest_parts x).p (lowest_parts x).q (lowest_parts x).m (lowest_is x))
 
   pub entry_held : (x : Exact D) (m : Mark) (k : A) → ((a b : A) → value a ≡ value b → a ≡ b) → value k ≡ x → entry_of find m x ≡ holds k
   unfolding entry_of

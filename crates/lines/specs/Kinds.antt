@@ -4,7 +4,7 @@
 --   Found value x o      o is the value that means x, or none and no value means x
 --   Finds value find     find p q m is what is found for (p + q√D)/m in lowest parts
 --   pick b f             the value f where the test b is true, else none
---   lowest_parts_lem x   p, q and m of x in lowest parts
+--   lowest_parts x   p, q and m of x in lowest parts
 --   look_up find x       the value that means x, if the kind holds x
 --   entry_of find m x    x as an entry: the value that means it, or the mark m where the kind does not hold it
 --   Worked find m x r    r is the number that stands in that entry, or the number's fault with the mark m
@@ -38,11 +38,11 @@ pub record Triple : Type 0 where
 abbrev pub lowered : ℤ → ℤ → ℕ → Triple
 lowered p q m = let g = gcd₃ (unsigned_abs p) (unsigned_abs q) m in record { p = part p g; q = part q g; m = m / g }
 
-unfoldable pub lowest_parts_lem : {D : ℕ} → Exact D → Triple
-lowest_parts_lem x = lowered (x.re.num *ℤ pos x.im.den) (x.im.num *ℤ pos x.re.den) (x.re.den * x.im.den)
+unfoldable pub lowest_parts : {D : ℕ} → Exact D → Triple
+lowest_parts x = lowered (x.re.num *ℤ pos x.im.den) (x.im.num *ℤ pos x.re.den) (x.re.den * x.im.den)
 
 abbrev pub look_up : {A : Type 0} {D : ℕ} → (ℤ → ℤ → ℕ → Option A) → Exact D → Option A
-look_up find x = let t = lowest_parts_lem x in find t.p t.q t.m
+look_up find x = let t = lowest_parts x in find t.p t.q t.m
 
 abbrev pub kept : {A : Type 0} → Mark → Option A → Entry A
 kept m (Some k) = holds k

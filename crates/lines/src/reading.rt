@@ -2,7 +2,7 @@
 ghost use Rattle.std.specs.Prelude.{◌≡◌, ℕ, ◌+◌, ◌*◌, ◌<◌, ◌≤◌, length, Decides, MatchOption};
 ghost use Rattle.lines.specs.Meaning.{order_of};
 ghost use Rattle.lines.specs.Opening.{Size, FirstBeyond, TableHeader};
-ghost use Rattle.lines.specs.Tables.{rows, block, F_index, G_index, last_index_lem, table_length};
+ghost use Rattle.lines.specs.Tables.{rows, block, F_index, G_index, last_index, table_length};
 ghost use Rattle.lines.specs.Whole.{Small, SmallFrom, cell};
 
 // The size from 1 to `most` that stands at an index, if one stands there.
@@ -130,7 +130,7 @@ pub(super) fn g_index(states: u8, inputs: u8, stop: u8, row: usize, column: usiz
 pub(super) fn last_index(states: u8, inputs: u8, stops: u8, row: usize, column: usize) -> usize
     requires row { row ≤ column }
     requires column { column ≤ states }
-    ensures { result ≡ last_index_lem states inputs stops row column }
+    ensures { result ≡ last_index states inputs stops row column }
 {
     block_start(states, inputs, stops) + (row_start(states as usize + 1, row) + (column - row))
 }

@@ -1,7 +1,7 @@
 // Where a study stands; paid, rest and excess.
 ghost use Rattle.std.specs.Prelude.{◌≡◌};
 ghost use Rattle.study_terms.specs.Sized.{shape};
-ghost use Rattle.study_terms.specs.Calls.{paid_checks, rest_checks, excess_checks, paid_at_lem, rest_at, excess_at_lem};
+ghost use Rattle.study_terms.specs.Calls.{paid_checks, rest_checks, excess_checks, paid_at, rest_at, excess_at};
 ghost use Rattle.study.specs.Promises.{AnswerPromise};
 
 use super::states::Underway;
@@ -24,7 +24,7 @@ impl<N: Kind + Copy> Underway<N> {
     pub fn paid<L: Line<Number = N>>(&self, line: &L, trail: &[Parts]) -> Result<N, StudyFault>
         ensures { AnswerPromise N.Number
             (paid_checks N.Number (shape self.now.at.sizes) (L.Line.meaning line.now) self.now.at.stop trail.now)
-            (paid_at_lem N.Number (shape self.now.at.sizes) (L.Line.meaning line.now) trail.now self.now.at.stop) result }
+            (paid_at N.Number (shape self.now.at.sizes) (L.Line.meaning line.now) trail.now self.now.at.stop) result }
     {
         paid_at(self.at, line, trail)
     }
@@ -42,7 +42,7 @@ impl<N: Kind + Copy> Underway<N> {
     pub fn excess(&self, gains: &[Parts], trail: &[Parts]) -> Result<N, StudyFault>
         ensures { AnswerPromise N.Number
             (excess_checks N.Number (shape self.now.at.sizes) self.now.at.stop gains.now trail.now)
-            (excess_at_lem N.Number (shape self.now.at.sizes) gains.now trail.now self.now.at.stop) result }
+            (excess_at N.Number (shape self.now.at.sizes) gains.now trail.now self.now.at.stop) result }
     {
         excess_at(self.at, gains, trail)
     }

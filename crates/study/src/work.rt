@@ -4,7 +4,7 @@ ghost use Rattle.study_terms.specs.Sized.{shape};
 ghost use Rattle.study_terms.specs.Refusals.{refusal};
 ghost use Rattle.study_terms.specs.Checks.{RefusedWith};
 ghost use Rattle.study_terms.specs.Weighing.{WeighGranted, WeighRefused};
-ghost use Rattle.study_terms.specs.Calls.{BeginGranted, ProposeGranted, ConfirmGranted, AnswerGranted, begin_checks, propose_checks, confirm_checks, paid_checks, rest_checks, excess_checks, paid_at_lem, rest_at, excess_at_lem};
+ghost use Rattle.study_terms.specs.Calls.{BeginGranted, ProposeGranted, ConfirmGranted, AnswerGranted, begin_checks, propose_checks, confirm_checks, paid_checks, rest_checks, excess_checks, paid_at, rest_at, excess_at};
 
 use lines::line::Line;
 use numbers::{Number, Parts};
@@ -53,7 +53,7 @@ pub trait Work {
 
     fn paid_at<L: Line>(at: Standing, line: &L, trail: &[Parts]) -> Result<L::Number, StudyFault>
         ensures { MatchResult result
-            (λ x. AnswerGranted L.Number.Number (paid_checks L.Number.Number (shape at.sizes) (L.Line.meaning line.now) at.stop trail.now) (paid_at_lem L.Number.Number (shape at.sizes) (L.Line.meaning line.now) trail.now at.stop) x)
+            (λ x. AnswerGranted L.Number.Number (paid_checks L.Number.Number (shape at.sizes) (L.Line.meaning line.now) at.stop trail.now) (paid_at L.Number.Number (shape at.sizes) (L.Line.meaning line.now) trail.now at.stop) x)
             (λ e. RefusedWith L.Number.Number (paid_checks L.Number.Number (shape at.sizes) (L.Line.meaning line.now) at.stop trail.now) (refusal e)) };
 
     fn rest_at<N: Number + Copy>(
@@ -71,6 +71,6 @@ pub trait Work {
         trail: &[Parts],
     ) -> Result<N, StudyFault>
         ensures { MatchResult result
-            (λ x. AnswerGranted N.Number (excess_checks N.Number (shape at.sizes) at.stop gains.now trail.now) (excess_at_lem N.Number (shape at.sizes) gains.now trail.now at.stop) x)
+            (λ x. AnswerGranted N.Number (excess_checks N.Number (shape at.sizes) at.stop gains.now trail.now) (excess_at N.Number (shape at.sizes) gains.now trail.now at.stop) x)
             (λ e. RefusedWith N.Number (excess_checks N.Number (shape at.sizes) at.stop gains.now trail.now) (refusal e)) };
 }

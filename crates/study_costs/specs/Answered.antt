@@ -12,7 +12,7 @@ use Rattle.study_terms.specs.declared.faults.kinds.StudyFault.{StudyFault}
 use Rattle.study_terms.specs.declared.sizes.Sizes.{Sizes}
 use Rattle.study_terms.specs.declared.stops.Standing.{Standing}
 use Rattle.study_terms.specs.declared.stops.Departing.{Departing}
-use Rattle.study_terms.specs.Calls.{begin_checks, BeginGranted, next_formula, confirm_checks, ConfirmGranted, paid_checks, paid_at_lem, rest_checks, rest_at, AnswerGranted}
+use Rattle.study_terms.specs.Calls.{begin_checks, BeginGranted, next_formula, confirm_checks, ConfirmGranted, paid_checks, paid_at, rest_checks, rest_at, AnswerGranted}
 use Rattle.study_terms.specs.Checks.{Checks, number, each, RefusedWith}
 use Rattle.study_terms.specs.Formulas.{NumberOf, Formula}
 use Rattle.study_terms.specs.Refusals.{bare, refusal}
@@ -31,7 +31,7 @@ module _ {A : Type 0} (N : Ghosts A) where
 
   module _ (m : Meaning A) where
     abbrev pub PaidAnswer : Standing → List Parts → Result A StudyFault → Type 0
-    PaidAnswer a trail (Ok x) = AnswerGranted N (paid_checks N (shape a.sizes) m a.stop trail) (paid_at_lem N (shape a.sizes) m trail a.stop) x
+    PaidAnswer a trail (Ok x) = AnswerGranted N (paid_checks N (shape a.sizes) m a.stop trail) (paid_at N (shape a.sizes) m trail a.stop) x
     PaidAnswer a trail (Err e) = RefusedWith N (paid_checks N (shape a.sizes) m a.stop trail) (refusal e)
 
     abbrev pub ConfirmAnswer : Departing → (made trail trail' : List Parts) → Result Standing StudyFault → Type 0

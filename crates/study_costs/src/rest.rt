@@ -1,7 +1,7 @@
 // What is left to pay.
 ghost use Rattle.std.specs.Prelude.{◌≡◌, ◌≤◌};
 ghost use Rattle.study_terms.specs.Formulas.{Outcome};
-ghost use Rattle.study_terms.specs.Sheets.{at as number_at, value_place_lem};
+ghost use Rattle.study_terms.specs.Sheets.{at as number_at, value_place};
 ghost use Rattle.study_terms.specs.Sized.{shape};
 ghost use Rattle.study_costs.specs.Answered.{RestAnswer};
 ghost use Rattle.study_costs.specs.Worked.{value_formula};
@@ -20,7 +20,7 @@ fn value_place(sizes: Sizes, stop: usize, row: usize, column: usize) -> usize
     requires stop { stop ≤ sizes.stops }
     requires row { row ≤ sizes.states }
     requires column { column ≤ sizes.states }
-    ensures { result ≡ value_place_lem (shape sizes) stop row column }
+    ensures { result ≡ value_place (shape sizes) stop row column }
 {
     let size = sizes.states + 1;
     sizes.stops * sizes.inputs * sizes.wide() + ((stop * size + row) * size + column)

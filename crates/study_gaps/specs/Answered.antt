@@ -9,7 +9,7 @@ use Rattle.numbers.specs.declared.Parts.{Parts}
 use Rattle.study_terms.specs.declared.faults.kinds.StudyFault.{StudyFault}
 use Rattle.study_terms.specs.declared.stops.Departing.{Departing}
 use Rattle.study_terms.specs.declared.stops.Standing.{Standing}
-use Rattle.study_terms.specs.Calls.{propose_checks, ProposeGranted, excess_at_lem, excess_checks, AnswerGranted}
+use Rattle.study_terms.specs.Calls.{propose_checks, ProposeGranted, excess_at, excess_checks, AnswerGranted}
 use Rattle.study_terms.specs.Checks.{RefusedWith}
 use Rattle.study_terms.specs.Refusals.{refusal}
 use Rattle.study_terms.specs.Sized.{shape}
@@ -21,5 +21,5 @@ module _ {A : Type 0} (N : Ghosts A) (at : Standing) (gains trail : List Parts) 
 
   abbrev pub ExcessTold : Result A StudyFault → Type 0
   ExcessTold (Ok x) =
-      AnswerGranted N (excess_checks N (shape at.sizes) at.stop gains trail) (excess_at_lem N (shape at.sizes) gains trail at.stop) x
+      AnswerGranted N (excess_checks N (shape at.sizes) at.stop gains trail) (excess_at N (shape at.sizes) gains trail at.stop) x
   ExcessTold (Err e) = RefusedWith N (excess_checks N (shape at.sizes) at.stop gains trail) (refusal e)

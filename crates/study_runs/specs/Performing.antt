@@ -1,11 +1,11 @@
 -- The run that a list of commands makes. N is a kind of number with the values A, m the line. Assumes nothing.
 --
 --   Performed N m cs answers h v   the commands cs were answered by `answers`, one each in order, from a new study: each command that the stage allows
---                       made one step of the run h, with its own arguments, and its answer tells the reply; each other command made no call,
---                       is no step, and was answered 'not now' with the name of the stage. The run led to the world v
---   Goes-on N m c a v w the command c, answered by a, leads from the world v to w as one step, whatever the run before; or its stage does not
---                       allow it
---   WholeRun N m cs answers   some run of the line is performed by cs and answers
+--                                  made one step of the run h, with its own arguments, and its answer tells the reply; each other command made no
+--                                  call, is no step, and was answered 'not now' with the name of the stage. The run led to the world v
+--   Steps N m c a v w              the command c makes one step, with its own arguments, from the world v to w, and the answer a tells the reply
+--   Skips N m c a v                the stage of the world v does not allow the command c, and the answer a is 'not now' with its name
+--   WholeRun N m cs answers        some run of the line is performed by cs and answers
 use Rattle.std.specs.Prelude.{◌≡◌, List, [], ◌∷◌, ◌++◌}
 use Rattle.numbers.specs.declared.Number.{Ghosts}
 use Rattle.numbers.specs.declared.Parts.{Parts}

@@ -8,7 +8,7 @@ use Rattle.control.proofs.Sums.{sum_ext}
 use Rattle.lines.specs.Meaning.{Meaning}
 use Rattle.numbers.specs.declared.Number.{Ghosts}
 use Rattle.numbers.specs.declared.Parts.{Parts}
-use Rattle.study_terms.specs.Calls.{rows_formula, form_formula, next_formula, stage_formula, paid_formula, paid_at_lem, rest_formula, rest_at}
+use Rattle.study_terms.specs.Calls.{rows_formula, form_formula, next_formula, stage_formula, paid_formula, paid_at, rest_formula, rest_at}
 use Rattle.study_terms.specs.Formulas.{field, Formula, known, sums, exact}
 use Rattle.study_terms.specs.Shapes.{Shape, shape_of}
 use Rattle.study_terms.specs.Sheets.{exact_line, x_at, u_at}
@@ -51,7 +51,7 @@ module _ {A : Type 0} (N : Ghosts A) where
     unfolding stage_cost
     stage_of_line trail n = form_exact _ _ _
 
-    pub paid_number : (s : Shape) → shape_of m ≡ s → (trail : List Parts) (k : ℕ) → exact N (paid_formula N s m trail k) ≡ paid_at_lem N s m trail k
+    pub paid_number : (s : Shape) → shape_of m ≡ s → (trail : List Parts) (k : ℕ) → exact N (paid_formula N s m trail k) ≡ paid_at N s m trail k
     paid_number s e trail k =
-        subst (λ s. exact N (paid_formula N s m trail k) ≡ paid_at_lem N s m trail k) e
+        subst (λ s. exact N (paid_formula N s m trail k) ≡ paid_at N s m trail k) e
         (sums_from_zero k _ ∙ sum_ext (field N) k _ _ (λ n _. stage_of_line trail n))

@@ -14,7 +14,7 @@ use Rattle.control.proofs.Lists.{join_left, join_right, join_self}
 use Rattle.control.proofs.Sums.{sum_ext, sum_split}
 use Rattle.numbers.specs.declared.Number.{Ghosts}
 use Rattle.numbers.specs.declared.Parts.{Parts}
-use Rattle.study_terms.specs.Calls.{later_formula, plan_formula, gap_formula, planned, gap_at, square_formula, excess_formula, excess_at_lem}
+use Rattle.study_terms.specs.Calls.{later_formula, plan_formula, gap_formula, planned, gap_at, square_formula, excess_formula, excess_at}
 use Rattle.study_terms.specs.Formulas.{field, known, exact}
 use Rattle.study_terms.specs.Shapes.{Shape, width}
 use Rattle.study_terms.proofs.FormNumbers.{sums_exact}
@@ -83,7 +83,7 @@ module _ {A : Type 0} (N : Ghosts A) where
           let e = gap_number (gains_at N s gains n) i (u_at N s trail n) (x_at N s trail n) l in
           ap₂ (λ a b. gains_at N s gains n i i ⊗ a ⊗ b) e e ∙ mul_assoc _ _ _
 
-      pub excess_number : (k : ℕ) → exact N (excess_formula N s gains trail k) ≡ excess_at_lem N s gains trail k
+      pub excess_number : (k : ℕ) → exact N (excess_formula N s gains trail k) ≡ excess_at N s gains trail k
       excess_number zero = refl
       excess_number (suc n) =
           sums_exact N (excess_formula N s gains trail n) nu _ ∙ ap₂ ◌⊕◌ (excess_number n) (sum_ext (field N) nu _ _ (λ i l. square_number n i l))

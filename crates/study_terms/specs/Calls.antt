@@ -6,10 +6,10 @@
 --   form_formula w M z                             how a quadratic form is worked: row by row, each term (entry × z a) × z c
 --   next_formula m s n j u x                       how the next lateness j is worked
 --   planned s r x                                  the adjustments without a gap at the factors r: the plan at one stop
---   paid_at_lem m s trail k                        the cost of the stops before k, of the adjustments and lateness in the trail
+--   paid_at m s trail k                            the cost of the stops before k, of the adjustments and lateness in the trail
 --   rest_at s gains trail k                        the form of P at stop k, taken at the lateness in the trail
---   excess_at_lem s gains trail k                  the sum over the stops before k of pivot × gap²
---   X-checks                                       what the call X checks: 16 another shape, 12 gains short, 21 start length, 22 trail short, 31 at the end, 33 slip length,
+--   excess_at s gains trail k                      the sum over the stops before k of pivot × gap²
+--   X_checks                                       what the call X checks: 16 another shape, 12 gains short, 21 start length, 22 trail short, 31 at the end, 33 slip length,
 --                                                  41 adjustments length, 61 before the end; and 32, 42, 51 for a number that is too large
 --   BeginGranted, ProposeGranted, ConfirmGranted   what a granted call leaves
 --   AnswerGranted c y x                            the checks c pass, and the answer x means the number y
@@ -61,8 +61,8 @@ module _ {A : Type 0} (N : Ghosts A) where
     abbrev pub gap_at : List Parts → List Parts → ℕ → ℕ → Car
     gap_at gains trail n i = gap_by (field N) (width s) (gains_at N s gains n) i (stacked_list N s (u_at N s trail n) (x_at N s trail n))
 
-    abbrev pub excess_at_lem : List Parts → List Parts → ℕ → Car
-    excess_at_lem gains trail k =
+    abbrev pub excess_at : List Parts → List Parts → ℕ → Car
+    excess_at gains trail k =
         sum (field N) k (λ n. sum (field N) s.nu (λ i. gains_at N s gains n i i ⊗ (gap_at gains trail n i ⊗ gap_at gains trail n i)))
 
     abbrev pub rest_formula : List Parts → List Parts → ℕ → Formula A Car
@@ -116,8 +116,8 @@ module _ {A : Type 0} (N : Ghosts A) where
       abbrev pub next_formula : ℕ → ℕ → (ℕ → Car) → (ℕ → Car) → Formula A Car
       next_formula n j u x = sums (known 𝟘) (width s) (λ c. times (asked (m.F n j c)) (known (stacked_list N s u x c)))
 
-      abbrev pub paid_at_lem : List Parts → ℕ → Car
-      paid_at_lem trail k = sum (field N) k (λ n. stage_cost (exact_line N m) n (u_at N s trail n) (x_at N s trail n))
+      abbrev pub paid_at : List Parts → ℕ → Car
+      paid_at trail k = sum (field N) k (λ n. stage_cost (exact_line N m) n (u_at N s trail n) (x_at N s trail n))
 
       abbrev pub stage_formula : List Parts → ℕ → Formula A Car
       stage_formula trail n = form_formula (width s) (λ a c. asked (m.G n a c)) (stacked_list N s (u_at N s trail n) (x_at N s trail n))

@@ -3,7 +3,7 @@
 --
 --   Checks A C          in order: nothing (none), a test with its refusal (test), a number that has to be held with the refusal for its fault
 --                       (number), a pivot that has to be positive (pivot), checks for each index from a on before b (each), one after the
---                       other (_then_)
+--                       other (◌then◌)
 --   Passes N c          every test is met, every number held, every pivot positive
 --   RefusedWith N c r   the first of c that fails gives the refusal r
 use Rattle.std.specs.Prelude.{◌≡◌, ℕ, ◌<◌, ◌≤◌, Bool, T, ◌⊎◌}

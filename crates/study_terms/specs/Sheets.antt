@@ -7,7 +7,7 @@
 --   Written N x row                  row is the one in which the value that means x is written
 --   exact_line N m                   the line m in exact numbers
 --   gains_place s n i c              the place of column c in the row of input i at stop n: zeros, the pivot, and then the factors
---   value_place_lem s n a c          the place of P a c at stop n
+--   value_place s n a c          the place of P a c at stop n
 --   x_place s n j                    the place of lateness j at stop n; u_place s n i: that of adjustment i
 --   gains_at, value_at, x_at, u_at   what a sheet means there
 --   state_list s x                   (x, 1) as numbers of the kind; stacked_list s u x: (u, x, 1)
@@ -33,8 +33,8 @@ zero_row = record { p = pos 0; q = pos 0; m = pos 1 }
 abbrev pub gains_place : Shape → ℕ → ℕ → ℕ → ℕ
 gains_place s n i c = (n * s.nu + i) * width s + c
 
-abbrev pub value_place_lem : Shape → ℕ → ℕ → ℕ → ℕ
-value_place_lem s n a c = s.end * s.nu * width s + ((n * suc s.nx + a) * suc s.nx + c)
+abbrev pub value_place : Shape → ℕ → ℕ → ℕ → ℕ
+value_place s n a c = s.end * s.nu * width s + ((n * suc s.nx + a) * suc s.nx + c)
 
 abbrev pub x_place : Shape → ℕ → ℕ → ℕ
 x_place s n j = n * (s.nx + s.nu) + j
@@ -67,7 +67,7 @@ module _ {A : Type 0} (N : Ghosts A) where
     gains_at t n i c = at t (gains_place s n i c)
 
     abbrev pub value_at : List Parts → ℕ → ℕ → ℕ → Car
-    value_at t n a c = at t (value_place_lem s n a c)
+    value_at t n a c = at t (value_place s n a c)
 
     abbrev pub x_at : List Parts → ℕ → ℕ → Car
     x_at t n j = at t (x_place s n j)
@@ -86,4 +86,4 @@ module _ {A : Type 0} (N : Ghosts A) where
     pub pivots : (n i : ℕ) → n < m.end → i < m.nu → Written (pivot (exact_line m) n i) (slice_index_or sheet (gains_place (shape_of m) n i i) blank)
     pub factors : (n i c : ℕ) → n < m.end → i < m.nu → i < c → c < width (shape_of m)
         → Written (factor (exact_line m) n i c) (slice_index_or sheet (gains_place (shape_of m) n i c) blank)
-    pub values : (n a c : ℕ) → n ≤ m.end → a < suc m.nx → c < suc m.nx → Written (P (exact_line m) n a c) (slice_index_or sheet (value_place_lem (shape_of m) n a c) blank)
+    pub values : (n a c : ℕ) → n ≤ m.end → a < suc m.nx → c < suc m.nx → Written (P (exact_line m) n a c) (slice_index_or sheet (value_place (shape_of m) n a c) blank)

@@ -21,7 +21,7 @@ use Rattle.lines.specs.Meaning.{Meaning}
 use Rattle.study_terms.specs.Shapes.{Shape, shape_of}
 use Rattle.study_terms.specs.Formulas.{field}
 use Rattle.study_terms.specs.Sheets.{at, exact_line, x_place, u_place, gains_at, x_at, u_at, Gains}
-use Rattle.study_terms.specs.Calls.{planned, paid_at_lem, rest_at, excess_at_lem, gap_at, BeginGranted, ConfirmGranted}
+use Rattle.study_terms.specs.Calls.{planned, paid_at, rest_at, excess_at, gap_at, BeginGranted, ConfirmGranted}
 use Rattle.study_terms.proofs.KindRows.{Laws, written_reads}
 use Rattle.study_theory.specs.Runs.{Account, confirmed, begun}
 use Rattle.study_theory.specs.Law.{confirmed_cost, confirmed_excess}
@@ -83,7 +83,7 @@ module _ {A : Type 0} (N : Ghosts A) (laws : Laws N) (m : Meaning A) where
   solve_same n x y k = ap (fill (field N) (width L) (M L n) (λ _. 𝟘) nu) (stacked_same (λ _. 𝟘) (λ _. 𝟘) x y (λ i l. refl) k)
 
   -- what the trail says is paid is the confirmed cost
-  pub paid_is : (trail : List Parts) (a : Account Car) → Follows trail a → paid_at_lem N s m trail a.stop ≡ confirmed_cost N m a
+  pub paid_is : (trail : List Parts) (a : Account Car) → Follows trail a → paid_at N s m trail a.stop ≡ confirmed_cost N m a
   paid_is trail a f =
       sum_ext (field N) a.stop _ _ (λ n l.
       let z : n ≡ 0 + n = omega arith in
@@ -117,7 +117,7 @@ module _ {A : Type 0} (N : Ghosts A) (laws : Laws N) (m : Meaning A) where
     unfolding stop_excess
     squares_is trail n l = sum_ext (field N) nu _ _ (λ i q. ap₂ (λ d t. d ⊗ (t ⊗ t)) (pivot_is n i l q) (gaps_is trail n i l q))
 
-    pub excess_is : (trail : List Parts) (a : Account Car) → a.stop ≤ end → Follows trail a → excess_at_lem N s gains trail a.stop ≡ confirmed_excess N m a
+    pub excess_is : (trail : List Parts) (a : Account Car) → a.stop ≤ end → Follows trail a → excess_at N s gains trail a.stop ≡ confirmed_excess N m a
     excess_is trail a l f =
         sum_ext (field N) a.stop _ _ (λ n q.
         let z : n ≡ 0 + n = omega arith in

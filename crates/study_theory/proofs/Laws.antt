@@ -17,7 +17,7 @@ use Rattle.study_terms.specs.Formulas.{field}
 use Rattle.study_terms.specs.Checks.{Checks, Passes, RefusedWith}
 use Rattle.study_terms.specs.Sheets.{at, exact_line, gains_at, x_at}
 use Rattle.study_terms.specs.Weighing.{by_a_test, by_a_step, WeighRefused, weigh_checks}
-use Rattle.study_terms.specs.Calls.{planned, paid_at_lem, rest_at, excess_at_lem, begin_checks, propose_checks, confirm_checks, paid_checks, rest_checks, excess_checks, close_checks}
+use Rattle.study_terms.specs.Calls.{planned, paid_at, rest_at, excess_at, begin_checks, propose_checks, confirm_checks, paid_checks, rest_checks, excess_checks, close_checks}
 use Rattle.study_terms.proofs.KindRows.{Laws, written_reads}
 use Rattle.study_theory.specs.Runs.{new, weighed, underway, ordered, Account, empty, entered, Call, propose, paid, rest, excess, Reply, told, wrote, refused, World, Asks, asks_weigh, asks_begin, asks_propose, asks_confirm, asks_withdraw, asks_paid, asks_rest, asks_excess, asks_abandon, asks_close, Step, weighs, begins, proposes, confirms, withdraws, tells_paid, tells_rest, tells_excess, abandons, closes, refuses_weigh, refuses}
 use Rattle.study_theory.specs.Law.{Granted, late, confirmed_cost, confirmed_excess, AccountLaw, WorldLaw, StudyLaw}
@@ -111,7 +111,7 @@ module _ {A : Type 0} (N : Ghosts A) (laws : Laws N) (m : Meaning A) where
         says_paid : (w : World N) (x : A) → Step N m v w paid (told x) → N.value x ≡ confirmed_cost N m a
         says_paid _ x (tells_paid {s = t} {k = k} e g) =
             let z = said t k i e in
-            g.answer ∙ ap₂ (λ t k. paid_at_lem N t m v.trail k) z.0 z.1 ∙ paid_is N laws m v.trail a h.trail
+            g.answer ∙ ap₂ (λ t k. paid_at N t m v.trail k) z.0 z.1 ∙ paid_is N laws m v.trail a h.trail
 
         says_rest : (w : World N) (x : A) → Step N m v w rest (told x) → LeastCost L a.stop (late N m a) (N.value x)
         says_rest _ x (tells_rest {s = t} {k = k} e g) =
@@ -124,7 +124,7 @@ module _ {A : Type 0} (N : Ghosts A) (laws : Laws N) (m : Meaning A) where
         says_excess : (w : World N) (x : A) → Step N m v w excess (told x) → N.value x ≡ confirmed_excess N m a
         says_excess _ x (tells_excess {s = t} {k = k} e g) =
             let z = said t k i e in
-            g.answer ∙ ap₂ (λ t k. excess_at_lem N t v.gains v.trail k) z.0 z.1 ∙ excess_is N laws m v.gains h.sheet.gains v.trail a l h.trail
+            g.answer ∙ ap₂ (λ t k. excess_at N t v.gains v.trail k) z.0 z.1 ∙ excess_is N laws m v.gains h.sheet.gains v.trail a l h.trail
 
         says_plan : (w : World N) (slip slip' : List Parts) → Step N m v w (propose slip) (wrote slip') → (j : ℕ) → j < nu → at N slip' j ≡ plan L a.stop (late N m a) 0 j
         says_plan _ slip slip' (proposes {s = t} {k = k} e g) j q =

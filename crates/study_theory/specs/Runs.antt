@@ -25,7 +25,7 @@ use Rattle.study_terms.specs.Formulas.{field}
 use Rattle.study_terms.specs.Checks.{Checks, none, Passes, RefusedWith}
 use Rattle.study_terms.specs.Sheets.{at}
 use Rattle.study_terms.specs.Weighing.{weigh_checks, WeighGranted, WeighRefused}
-use Rattle.study_terms.specs.Calls.{begin_checks, propose_checks, confirm_checks, paid_checks, rest_checks, excess_checks, close_checks, BeginGranted, ProposeGranted, ConfirmGranted, AnswerGranted, paid_at_lem, rest_at, excess_at_lem}
+use Rattle.study_terms.specs.Calls.{begin_checks, propose_checks, confirm_checks, paid_checks, rest_checks, excess_checks, close_checks, BeginGranted, ProposeGranted, ConfirmGranted, AnswerGranted, paid_at, rest_at, excess_at}
 
 pub data Stage : Type 0 where
   new : Stage
@@ -114,11 +114,11 @@ module _ {A : Type 0} (N : Ghosts A) where
           → Step v (record { stage = underway s (suc k); gains = v.gains; trail = trail'; ledger = extended v.ledger (at N made) }) (confirm made) done
       withdraws : {s : Shape} {k : ℕ} → v.stage ≡ ordered s k
           → Step v (record { stage = underway s k; gains = v.gains; trail = v.trail; ledger = v.ledger }) withdraw done
-      tells_paid : {s : Shape} {k : ℕ} {x : A} → v.stage ≡ underway s k → AnswerGranted N (paid_checks N s m k v.trail) (paid_at_lem N s m v.trail k) x → Step v v paid (told x)
+      tells_paid : {s : Shape} {k : ℕ} {x : A} → v.stage ≡ underway s k → AnswerGranted N (paid_checks N s m k v.trail) (paid_at N s m v.trail k) x → Step v v paid (told x)
       tells_rest : {s : Shape} {k : ℕ} {x : A} → v.stage ≡ underway s k
           → AnswerGranted N (rest_checks N s k v.gains v.trail) (rest_at N s v.gains v.trail k) x → Step v v rest (told x)
       tells_excess : {s : Shape} {k : ℕ} {x : A} → v.stage ≡ underway s k
-          → AnswerGranted N (excess_checks N s k v.gains v.trail) (excess_at_lem N s v.gains v.trail k) x → Step v v excess (told x)
+          → AnswerGranted N (excess_checks N s k v.gains v.trail) (excess_at N s v.gains v.trail k) x → Step v v excess (told x)
       abandons : {s : Shape} {k : ℕ} → v.stage ≡ underway s k
           → Step v (record { stage = weighed s; gains = v.gains; trail = v.trail; ledger = empty }) abandon done
       closes : {s : Shape} {k : ℕ} → v.stage ≡ underway s k → Passes N (close_checks N s k)

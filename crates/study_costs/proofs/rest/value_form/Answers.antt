@@ -3,7 +3,7 @@ use Rattle.numbers.specs.declared.Parts.{Parts}
 use Rattle.study_terms.specs.declared.stops.Standing.{Standing}
 use Rattle.study_terms.specs.Calls.{rows_formula, form_formula}
 use Rattle.study_terms.specs.Formulas.{NumberOf, Formula, known, FirstFault, Outcome}
-use Rattle.study_terms.specs.Sheets.{at, value_place_lem, value_at, state_list}
+use Rattle.study_terms.specs.Sheets.{at, value_place, value_at, state_list}
 use Rattle.study_terms.specs.Sized.{shape}
 use Rattle.study_terms.proofs.Working.{exits}
 use Rattle.study_costs.proofs.FormTerms.{term_more, row_more, term_fault}
@@ -16,7 +16,7 @@ entries g s gains a c = known (value_at g.N.Number (shape s.sizes) gains s.stop 
 abbrev list : (g : given.Over) → Standing → List Parts → ℕ → NumberOf g.N.Number
 list g s lateness = state_list g.N.Number (shape s.sizes) (at g.N.Number lateness)
 
-entry_read : (g : given.Over) (s : Standing) (gains : List Parts) (a c place : ℕ) (k : g.row.N.Denot) → place ≡ value_place_lem (shape s.sizes) s.stop a c
+entry_read : (g : given.Over) (s : Standing) (gains : List Parts) (a c place : ℕ) (k : g.row.N.Denot) → place ≡ value_place (shape s.sizes) s.stop a c
     → g.N.Number.value k ≡ at g.N.Number gains place → Outcome g.N.Number (entries g s gains a c) (Ok k)
 entry_read g s gains a c place k p e = (tt, subst (λ n. g.N.Number.value k ≡ at g.N.Number gains n) p e)
 

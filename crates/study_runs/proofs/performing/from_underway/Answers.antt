@@ -3,7 +3,7 @@ use Rattle.study_theory.specs.Runs.{proposes, tells_paid, tells_rest, tells_exce
 use Rattle.study_theory.specs.Runs as runs
 use Rattle.study_terms.specs.Sized.{shape}
 use Rattle.study_terms.specs.Sheets.{blank}
-use Rattle.study_terms.specs.Calls.{propose_checks, paid_checks, rest_checks, excess_checks, close_checks, paid_at_lem, rest_at, excess_at_lem}
+use Rattle.study_terms.specs.Calls.{propose_checks, paid_checks, rest_checks, excess_checks, close_checks, paid_at, rest_at, excess_at}
 use Rattle.study.specs.Stages.{underway_stage}
 use Rattle.study_runs.specs.declared.commands.Command.TheVariants.{Propose, Paid, Rest, Excess, Abandon, Close}
 use Rattle.study_runs.specs.declared.answers.Answer.TheVariants.{Planned, Ended}
@@ -45,7 +45,7 @@ returns-in-Paid g c =
     let m = g.L.Line.meaning c.args.line.now in
     let s = shape c.args.study.at.sizes in
     let k = c.args.study.at.stop in
-    goes_asked N m c.args.command.now Paid (underway_stage c.args.study) c.args.gains.now c.args.trail.now runs.paid (paid_checks N s m k c.args.trail.now) (paid_at_lem N s m c.args.trail.now k)
+    goes_asked N m c.args.command.now Paid (underway_stage c.args.study) c.args.gains.now c.args.trail.now runs.paid (paid_checks N s m k c.args.trail.now) (paid_at N s m c.args.trail.now k)
     c.paid.result c.told-answer.result c.in-Paid.is refl (asks_paid refl) (λ x h l. tells_paid refl h) c.paid.ensures c.told-answer.ensures
 
 pub returns-in-Rest : goal.returns-in-Rest
@@ -63,7 +63,7 @@ returns-in-Excess g c =
     let m = g.L.Line.meaning c.args.line.now in
     let s = shape c.args.study.at.sizes in
     let k = c.args.study.at.stop in
-    goes_asked N m c.args.command.now Excess (underway_stage c.args.study) c.args.gains.now c.args.trail.now runs.excess (excess_checks N s k c.args.gains.now c.args.trail.now) (excess_at_lem N s c.args.gains.now c.args.trail.now k)
+    goes_asked N m c.args.command.now Excess (underway_stage c.args.study) c.args.gains.now c.args.trail.now runs.excess (excess_checks N s k c.args.gains.now c.args.trail.now) (excess_at N s c.args.gains.now c.args.trail.now k)
     c.excess.result c.told-answer-in-Excess.result c.in-Excess.is refl (asks_excess refl) (λ x h l. tells_excess refl h) c.excess.ensures c.told-answer-in-Excess.ensures
 
 pub returns-in-Abandon : goal.returns-in-Abandon

@@ -1,6 +1,6 @@
 use Rattle.std.proofs.Common.{◌≡◌, ℕ, ◌+◌, ◌-◌, min, subst, arith}
 use Rattle.lines.specs.Meaning.{holds, marked}
-use Rattle.aims.specs.Aimed.{aim, column_less_lem}
+use Rattle.aims.specs.Aimed.{aim, column_less}
 use Rattle.aims.proofs.Aiming.{passed, column_more, column_stays}
 use Rattle.aims.proofs.layer.Aims.column.Goals as goal
 
@@ -18,8 +18,8 @@ returns-in_err-sum-2 g c =
     let f = g.L.Number.Kind.find in
     let t = aim c.args.self.now.aims in
     let e = c.in_err-sum-2.field-0.0.mark in
-    let here : column_less_lem v f t b c.args.mark c.args.stop c.args.row (c.args.last - b.nx) c.loop-k.k c.loop-k.sum ≡ marked e =
-    subst (λ (i : ℕ). column_less_lem v f t b c.args.mark c.args.stop c.args.row i c.loop-k.k c.loop-k.sum ≡ marked e) c.loop-k.invariant.1 c.in_err-sum-2.ensures in
+    let here : column_less v f t b c.args.mark c.args.stop c.args.row (c.args.last - b.nx) c.loop-k.k c.loop-k.sum ≡ marked e =
+    subst (λ (i : ℕ). column_less v f t b c.args.mark c.args.stop c.args.row i c.loop-k.k c.loop-k.sum ≡ marked e) c.loop-k.invariant.1 c.in_err-sum-2.ensures in
     passed _ c.in_err-sum-2.field-0.0 c.from_residual-in_err-sum-2.result
     (column_stays v f t b c.args.mark c.args.stop c.args.last (c.args.last - b.nx) c.args.row (c.loop-k.k + 1) (min b.nx 4) e (omega arith)
     (column_more v f t b c.args.mark c.args.stop c.args.last (c.args.last - b.nx) c.args.row c.loop-k.k c.loop-k.sum (marked e) c.loop-k.invariant.2 here))
@@ -32,8 +32,8 @@ loop-k-preserved g c =
     let f = g.L.Number.Kind.find in
     let t = aim c.args.self.now.aims in
     let r = holds c.in_ok-sum-2.sum in
-    let here : column_less_lem v f t b c.args.mark c.args.stop c.args.row (c.args.last - b.nx) c.loop-k.k c.loop-k.sum ≡ r =
-    subst (λ (i : ℕ). column_less_lem v f t b c.args.mark c.args.stop c.args.row i c.loop-k.k c.loop-k.sum ≡ r) c.loop-k.invariant.1 c.in_ok-sum-2.ensures in (
+    let here : column_less v f t b c.args.mark c.args.stop c.args.row (c.args.last - b.nx) c.loop-k.k c.loop-k.sum ≡ r =
+    subst (λ (i : ℕ). column_less v f t b c.args.mark c.args.stop c.args.row i c.loop-k.k c.loop-k.sum ≡ r) c.loop-k.invariant.1 c.in_ok-sum-2.ensures in (
       c.loop-k.invariant.0,
       c.loop-k.invariant.1,
       column_more v f t b c.args.mark c.args.stop c.args.last (c.args.last - b.nx) c.args.row c.loop-k.k c.loop-k.sum r c.loop-k.invariant.2 here,
