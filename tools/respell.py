@@ -31,6 +31,11 @@ OTHERWISE = {
     "Exact-square": "exact_square",
     "not-zero-sum": "not_zero_sum",
     "stage-cost": "stage_cost",
+    "column-less": "column_less",
+    "corner-less": "corner_less",
+    "last-index": "last_index",
+    "lowest-parts": "lowest_parts",
+    "size-at": "size_at",
 }
 
 
