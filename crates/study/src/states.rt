@@ -1,6 +1,6 @@
 // The states of a study. Each is plain numbers: the sizes of the line, and the stop where the study stands. The sheets are the caller's, and
 // are passed to each call.
-ghost use Rattle.std.specs.Prelude.{◌≡◌, IsTrue};
+ghost use Rattle.std.specs.Prelude.{◌≡◌, false, IsTrue};
 
 use std::marker::PhantomData;
 use study_terms::sizes::Sizes;
@@ -51,7 +51,11 @@ impl<N> Ordered<N> {
 }
 
 impl Order {
-    pub(super) fn given(stop: usize) -> Order {
+    // An order that is out.
+    pub(super) fn given(stop: usize) -> Order
+        ensures stop { result.stop ≡ stop }
+        ensures out { result.spent ≡ false }
+    {
         Order { stop, spent: false }
     }
 
