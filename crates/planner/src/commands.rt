@@ -1,5 +1,5 @@
 // The commands, given on the command line or one to a line of a file.
-use super::failure::*;
+use super::failure::{Failure, fail};
 use super::{files, join, show};
 
 // The longest file of commands.
@@ -25,58 +25,35 @@ Prints '> COMMAND' before what each command prints, and stops at the first that 
 
 // Performs one command. `do` is no command of a file of commands.
 pub fn perform(rt: &HostRuntime, words: &[&str]) -> Result<(), Failure> {
-    if words.is_empty() {
-        return Err(Failure::Told(format!(in rt.alloc(); "no command\n{HELP}")?));
-    }
-    let rest = &words[1..];
-    let asks = rest.len() == 1 && rest[0] == "--help";
-    match words[0] {
-        "join" => join::perform(rt, rest),
-        "show" => show::perform(rt, rest),
-        "help" => {
-            println!(rt; "{HELP}")?;
-            Ok(())
-        }
-        "do" if asks => {
-            println!(rt; "{HELP_DO}")?;
-            Ok(())
-        }
-        command => Err(Failure::Told(format!(in rt.alloc();
-            "no such command: {command}\n{HELP}"
-        )?)),
+    match words {
+        [] => fail(rt, format_args!("no command\n{HELP}")),
+        ["join", rest @ ..] => join::perform(rt, rest),
+        ["show", rest @ ..] => show::perform(rt, rest),
+        ["help", ..] => Ok(println!(rt; "{HELP}")?),
+        ["do", "--help"] => Ok(println!(rt; "{HELP_DO}")?),
+        [command, ..] => fail(rt, format_args!("no such command: {command}\n{HELP}")),
     }
 }
 
 // Performs the commands of a file up to the first that is refused.
 pub fn perform_file(rt: &HostRuntime, name: &str) -> Result<(), Failure> {
     if name == "--help" {
-        println!(rt; "{HELP_DO}")?;
-        return Ok(());
+        return Ok(println!(rt; "{HELP_DO}")?);
     }
     let text = files::read_text(rt, name, MOST)?;
-    let mut number: usize = 0;
-    for line in text.lines() {
-        number = number.saturating_add(1);
-        perform_line(rt, name, number, line)?;
+    for (number, line) in (1usize..).zip(text.lines()) {
+        perform_line(rt, name, number, files::without_comment(line))?;
     }
     Ok(())
 }
 
-// One line of a file of commands, without its comment. A line without words is passed over.
-fn perform_line(rt: &HostRuntime, name: &str, number: usize, line: &str) -> Result<(), Failure> {
-    let command = files::without_comment(line);
-    let mut words = Vec::new(rt.alloc());
-    for word in command.split_whitespace() {
-        words.push(word)?;
-    }
+// One line of a file of commands. A line without words is passed over.
+fn perform_line(rt: &HostRuntime, name: &str, number: usize, command: &str) -> Result<(), Failure> {
+    let words: Vec<&str> = command.split_whitespace().collect(rt.alloc())?;
     if words.is_empty() {
         return Ok(());
     }
     println!(rt; "> {command}")?;
-    match perform(rt, words.as_slice()) {
-        Ok(()) => Ok(()),
-        Err(failure) => Err(Failure::Told(format!(in rt.alloc();
-            "{name} line {number}: {failure}"
-        )?)),
-    }
+    perform(rt, words.as_slice())
+        .or_else(|failure| fail(rt, format_args!("{name} line {number}: {failure}")))
 }

@@ -1,39 +1,20 @@
 // Why the program stops before its end. It prints as one sentence, and the process ends with status 1.
-use std::alloc::{AllocError, AllocFailed};
+use std::alloc::AllocError;
 use std::{fmt, io};
+use thiserror::Error;
 
-#[derive(Debug, Drop)]
+#[derive(Debug, Drop, Error)]
 pub enum Failure {
-    Memory,
-    Io(io::Error),
+    #[error("there is not enough memory")]
+    Memory(#[from(alloc)] AllocError),
+    #[error(transparent)]
+    Io(#[from] io::Error),
     // a sentence that says what was refused, and where
+    #[error("{0}")]
     Told(String),
 }
 
-impl From<AllocError> for Failure {
-    fn from(_e: AllocError) -> Failure {
-        Failure::Memory
-    }
-}
-
-impl<T: Drop> From<AllocFailed<T>> for Failure {
-    fn from(_e: AllocFailed<T>) -> Failure {
-        Failure::Memory
-    }
-}
-
-impl From<io::Error> for Failure {
-    fn from(e: io::Error) -> Failure {
-        Failure::Io(e)
-    }
-}
-
-impl fmt::Display for Failure {
-    fn fmt<W: fmt::Write>(&self, f: &mut fmt::Formatter<W>) -> fmt::Result {
-        match self {
-            Failure::Memory => f.write_str("there is not enough memory"),
-            Failure::Io(e) => write!(f, "{e}"),
-            Failure::Told(sentence) => write!(f, "{sentence}"),
-        }
-    }
+// Stops with a sentence.
+pub fn fail<T: Drop>(rt: &HostRuntime, sentence: impl fmt::Display + Drop) -> Result<T, Failure> {
+    Err(Failure::Told(format!(in rt.alloc(); "{sentence}")?))
 }

@@ -1,7 +1,7 @@
 #![tactic(auto)]
 
 // The planner's program: files and commands in, a report out. What it performs is in the libraries.
-use failure::*;
+use failure::Failure;
 use std::env;
 use std::process::ExitCode;
 
@@ -24,16 +24,10 @@ fn main(rt: HostRuntime) -> ExitCode {
 
 // `do` is told apart from the commands that a file may hold, so that no file performs itself.
 fn run(rt: &HostRuntime) -> Result<(), Failure> {
-    let mut owned = Vec::new(rt.alloc());
-    for word in env::args(rt)?.skip(1) {
-        owned.push(word)?;
+    let owned: Vec<String> = env::args(rt)?.skip(1).collect(rt.alloc())?;
+    let words: Vec<&str> = owned.iter().map(|word| word.as_str()).collect(rt.alloc())?;
+    match words.as_slice() {
+        ["do", name] => commands::perform_file(rt, name),
+        words => commands::perform(rt, words),
     }
-    let mut words = Vec::new(rt.alloc());
-    for word in owned.iter() {
-        words.push(word.as_str())?;
-    }
-    if words.len() == 2 && words[0] == "do" {
-        return commands::perform_file(rt, words[1]);
-    }
-    commands::perform(rt, words.as_slice())
 }

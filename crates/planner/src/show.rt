@@ -1,9 +1,9 @@
 // `planner show LINE ...`: a line with aims and feeds laid over it, entry by entry.
-use super::failure::*;
+use super::failure::{Failure, fail};
 use super::{files, join, linefile};
 use aims::layer::Aims;
 use feeds::book::Book;
-use lines::faults::LineFault;
+use lines::faults::{LineFault, Mark};
 use lines::line::Line;
 use numbers::{Fraction, Number};
 use trains::layer::Trains;
@@ -28,9 +28,8 @@ struct Wanted<'a> {
 }
 
 pub fn perform(rt: &HostRuntime, words: &[&str]) -> Result<(), Failure> {
-    if words.len() == 1 && words[0] == "--help" {
-        println!(rt; "{HELP}")?;
-        return Ok(());
+    if let ["--help"] = words {
+        return Ok(println!(rt; "{HELP}")?);
     }
     let wanted = wanted_by(rt, words)?;
     let table = linefile::read_table(rt, wanted.line)?;
@@ -38,7 +37,7 @@ pub fn perform(rt: &HostRuntime, words: &[&str]) -> Result<(), Failure> {
         return with_feeds(rt, table, wanted.feeds.as_slice());
     }
     let mut aimed = Aims::over(table);
-    for word in wanted.aims.iter() {
+    for word in &wanted.aims {
         set_aim(rt, &mut aimed, word)?;
     }
     with_feeds(rt, aimed, wanted.feeds.as_slice())
@@ -46,47 +45,42 @@ pub fn perform(rt: &HostRuntime, words: &[&str]) -> Result<(), Failure> {
 
 // The line's file comes first, and each option has one word.
 fn wanted_by<'a>(rt: &HostRuntime, words: &[&'a str]) -> Result<Wanted<'a>, Failure> {
+    let [line, options @ ..] = words else {
+        return fail(rt, format_args!("show: no line is named\n{HELP}"));
+    };
     let mut aims = Vec::new(rt.alloc());
     let mut feeds = Vec::new(rt.alloc());
-    if words.is_empty() {
-        return Err(Failure::Told(format!(in rt.alloc(); "show: no line is named\n{HELP}")?));
-    }
-    let line = words[0];
-    let mut option = "";
-    for word in &words[1..] {
+    for option in options.chunks(2) {
         match option {
-            "--aim" => aims.push(*word)?,
-            "--feed" => feeds.push(*word)?,
-            _ => {}
+            ["--aim", word] => aims.push(*word)?,
+            ["--feed", word] => feeds.push(*word)?,
+            [name @ ("--aim" | "--feed")] => {
+                return fail(rt, format_args!("show: {name} wants a word\n{HELP}"));
+            }
+            [name, ..] => return fail(rt, format_args!("show: no such option: {name}\n{HELP}")),
+            [] => {}
         }
-        let known = *word == "--aim" || *word == "--feed";
-        if option.is_empty() && !known {
-            return Err(Failure::Told(format!(in rt.alloc();
-                "show: no such option: {word}\n{HELP}"
-            )?));
-        }
-        option = if option.is_empty() { *word } else { "" };
     }
-    if !option.is_empty() {
-        return Err(Failure::Told(format!(in rt.alloc(); "show: {option} wants a word\n{HELP}")?));
-    }
-    Ok(Wanted { line, aims, feeds })
+    Ok(Wanted {
+        line: *line,
+        aims,
+        feeds,
+    })
 }
 
 fn set_aim<L: Line>(rt: &HostRuntime, aimed: &mut Aims<L>, word: &str) -> Result<(), Failure> {
     let Some((stop, state, value)) = three(word) else {
-        return Err(Failure::Told(format!(in rt.alloc();
-            "show: --aim {word}: not STOP,STATE,VALUE"
-        )?));
+        return fail(rt, format_args!("show: --aim {word}: not STOP,STATE,VALUE"));
     };
     match aimed.set(stop, state, value) {
         Ok(()) => Ok(()),
         Err(fault) => {
             let number = fault.number();
             let sentence = "no such stop or state, or a value beyond 999 in size";
-            Err(Failure::Told(format!(in rt.alloc();
-                "show: --aim {word}: refused {number}: {sentence}"
-            )?))
+            fail(
+                rt,
+                format_args!("show: --aim {word}: refused {number}: {sentence}"),
+            )
         }
     }
 }
@@ -95,14 +89,7 @@ fn set_aim<L: Line>(rt: &HostRuntime, aimed: &mut Aims<L>, word: &str) -> Result
 fn three(word: &str) -> Option<(usize, usize, i64)> {
     let (stop, rest) = word.split_once(',')?;
     let (state, value) = rest.split_once(',')?;
-    let (Ok(stop), Ok(state), Ok(value)) = (
-        stop.parse::<usize>(),
-        state.parse::<usize>(),
-        value.parse::<i64>(),
-    ) else {
-        return None;
-    };
-    Some((stop, state, value))
+    Some((stop.parse().ok()?, state.parse().ok()?, value.parse().ok()?))
 }
 
 // Lays the trains of the feeds over a line, if there are feeds, and shows it.
@@ -116,15 +103,18 @@ fn with_feeds<L: Line<Number = Fraction> + Drop>(
     }
     let mut book = Book::new(rt.alloc())?;
     for name in names {
-        let _ = join::take_in(rt, &mut book, name)?;
+        join::take_in(rt, &mut book, name)?;
     }
     match trains::fits(&line, &book) {
         Ok(()) => show(rt, &Trains::over(line, book)),
         Err(fault) => {
             let number = fault.number();
-            Err(Failure::Told(format!(in rt.alloc();
-                "show: refused {number}: the sizes of the feeds are not those of the line"
-            )?))
+            fail(
+                rt,
+                format_args!(
+                    "show: refused {number}: the sizes of the feeds are not those of the line"
+                ),
+            )
         }
     }
 }
@@ -190,11 +180,12 @@ fn show_entry(
             }
         }
         Err(fault) => {
-            let mark = fault.mark;
-            let level = mark.level;
-            let of = mark.stop;
-            let at = mark.row;
-            let under = mark.column;
+            let Mark {
+                level,
+                stop: of,
+                row: at,
+                column: under,
+            } = fault.mark;
             println!(rt; "{matrix} {stop} {row} {column} mark {level} {of} {at} {under}")?;
         }
     }
