@@ -4,38 +4,14 @@
 //   new                 a new book
 //   read FEED           a feed, with \n, \r, \t, \\ and \xHH for bytes that a line cannot show
 //   find STOP LABEL     where a train stands
+ghost use Rattle.std.specs.Prelude.{◌<◌, length, IfSome};
+
+use anyhow::{Result, bail};
 use feed_types::faults::FeedFault;
 use feeds::book::Book;
-use std::alloc::{AllocError, AllocFailed, Global};
-use std::io;
+use std::alloc::{AllocError, Global};
 
-#[derive(Debug, Drop)]
-enum Failure {
-    Memory,
-    Io(io::Error),
-    // a line that is no case
-    NoCase,
-}
-
-impl From<AllocError> for Failure {
-    fn from(_e: AllocError) -> Failure {
-        Failure::Memory
-    }
-}
-
-impl<T: Drop> From<AllocFailed<T>> for Failure {
-    fn from(_e: AllocFailed<T>) -> Failure {
-        Failure::Memory
-    }
-}
-
-impl From<io::Error> for Failure {
-    fn from(e: io::Error) -> Failure {
-        Failure::Io(e)
-    }
-}
-
-fn main(rt: HostRuntime) -> Result<(), Failure> {
+fn main(rt: HostRuntime) -> Result<()> {
     let mut book = Book::new(rt.alloc())?;
     for line in rt.lines(rt.alloc()) {
         let line = line?;
@@ -49,7 +25,7 @@ fn main(rt: HostRuntime) -> Result<(), Failure> {
     Ok(())
 }
 
-fn answer(rt: &HostRuntime, book: &mut Book, line: &str) -> Result<(), Failure> {
+fn answer(rt: &HostRuntime, book: &mut Book, line: &str) -> Result<()> {
     match line.split_once(' ') {
         Some(("read", feed)) => {
             let bytes = unescaped(rt.alloc(), feed.as_bytes())?;
@@ -60,11 +36,11 @@ fn answer(rt: &HostRuntime, book: &mut Book, line: &str) -> Result<(), Failure> 
             Ok(())
         }
         Some(("find", rest)) => find(rt, book, rest),
-        _ => Err(Failure::NoCase),
+        _ => bail!("no case: {line}"),
     }
 }
 
-fn tell(rt: &HostRuntime, answer: Result<usize, FeedFault>) -> Result<(), Failure> {
+fn tell(rt: &HostRuntime, answer: Result<usize, FeedFault>) -> Result<()> {
     match answer {
         Ok(new) => println!(rt; "new {new}")?,
         Err(FeedFault::OtherValues { line, slot }) => println!(rt;
@@ -81,13 +57,11 @@ fn tell(rt: &HostRuntime, answer: Result<usize, FeedFault>) -> Result<(), Failur
     Ok(())
 }
 
-fn find(rt: &HostRuntime, book: &Book, rest: &str) -> Result<(), Failure> {
+fn find(rt: &HostRuntime, book: &Book, rest: &str) -> Result<()> {
     let Some((stop, label)) = rest.split_once(' ') else {
-        return Err(Failure::NoCase);
+        bail!("no stop and label: {rest}");
     };
-    let Ok(stop) = stop.parse::<usize>() else {
-        return Err(Failure::NoCase);
-    };
+    let stop = stop.parse::<usize>()?;
     match book.find(stop, label.as_bytes()) {
         Some(slot) => println!(rt; "slot {slot}")?,
         None => println!(rt; "none")?,
@@ -95,7 +69,9 @@ fn find(rt: &HostRuntime, book: &Book, rest: &str) -> Result<(), Failure> {
     Ok(())
 }
 
-fn digit(b: u8) -> u8 {
+fn digit(b: u8) -> u8
+    ensures { result < 16 }
+{
     match b {
         b'0'..=b'9' => b - b'0',
         b'a'..=b'f' => b - b'a' + 10,
@@ -104,31 +80,28 @@ fn digit(b: u8) -> u8 {
 }
 
 // The bytes that an escaped text stands for.
-fn unescaped(heap: Global, text: &[u8]) -> Result<Vec<u8>, Failure> {
+fn unescaped(heap: Global, text: &[u8]) -> Result<Vec<u8>, AllocError> {
     let mut bytes = Vec::new(heap);
-    let mut skip: usize = 0;
-    for (i, b) in text.iter().enumerate() {
-        if skip > 0 {
-            skip -= 1;
-        } else if *b != b'\\' {
-            bytes.push(*b)?;
-        } else {
-            let (byte, more) = escape(&text[i..]);
-            bytes.push(byte)?;
-            skip = more;
-        }
+    let mut rest = text;
+    while let Some((byte, more)) = first_byte(rest) {
+        bytes.push(byte)?;
+        rest = more;
     }
     Ok(bytes)
 }
 
-// The byte of an escape, and how many bytes follow its backslash.
-fn escape(text: &[u8]) -> (u8, usize) {
+// The first of them, and the text of the others.
+fn first_byte(text: &[u8]) -> Option<(u8, &[u8])>
+    ensures { IfSome result (λ p. length p.1.now < length text.now) }
+{
     match text {
-        [_, b'n', ..] => (b'\n', 1),
-        [_, b'r', ..] => (b'\r', 1),
-        [_, b't', ..] => (b'\t', 1),
-        [_, b'x', high, low, ..] => ((digit(*high) & 15) * 16 + (digit(*low) & 15), 3),
-        _ => (b'\\', 1),
+        [] => None,
+        [b'\\', b'n', more @ ..] => Some((b'\n', more)),
+        [b'\\', b'r', more @ ..] => Some((b'\r', more)),
+        [b'\\', b't', more @ ..] => Some((b'\t', more)),
+        [b'\\', b'x', high, low, more @ ..] => Some((digit(*high) * 16 + digit(*low), more)),
+        [b'\\', _, more @ ..] => Some((b'\\', more)),
+        [byte, more @ ..] => Some((*byte, more)),
     }
 }
 
