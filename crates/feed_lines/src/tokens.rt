@@ -1,12 +1,9 @@
-// The lines of a feed, each passed on as its key and the part of the feed that is its value, with its place.
-ghost use Rattle.std.specs.Prelude.{◌≡◌, ◌+◌, ◌≤◌, length, drop, MatchOption, MatchResult};
-ghost use Rattle.feed_types.specs.declared.faults.FeedFault.TheVariants.{NoLine};
-ghost use Rattle.feed_types.specs.declared.keys.Key.{Key};
-ghost use Rattle.feed_types.specs.Tokens.{IsKey, spelt, Found, InFeed, LineAt, HasNoLine};
+// A line of a feed as its key and the part of the feed that is its value.
+ghost use Rattle.std.specs.Prelude.{◌≡◌, MatchOption};
+ghost use Rattle.feed_types.specs.Tokens.{IsKey, spelt};
 ghost use Rattle.feed_lines.specs.Lexing.{key_of, value_of};
 
-use feed_types::faults::FeedFault;
-use feed_types::keys::{Key, Place};
+use feed_types::keys::Key;
 
 // A line by its key, with the bytes of the feed that are its value.
 #[derive(Clone, Copy)]
@@ -20,20 +17,6 @@ pub enum Token<'a> {
     Late(&'a [u8]),
     Move(&'a [u8]),
     Aim(&'a [u8]),
-}
-
-// A token, and the place after its line.
-#[derive(Clone, Copy)]
-pub struct Line<'a> {
-    pub token: Token<'a>,
-    pub next: Place,
-}
-
-// A value, and the place after its line.
-#[derive(Clone, Copy)]
-pub struct Field<'a> {
-    pub value: &'a [u8],
-    pub next: Place,
 }
 
 // The key that a word spells, if it is one of a feed's.
@@ -55,17 +38,14 @@ fn key_named(word: &str) -> Option<Key>
 }
 
 // The same of bytes, which may be no text.
-fn key_in(word: &[u8]) -> Option<Key>
+pub fn key_in(word: &[u8]) -> Option<Key>
     ensures { MatchOption result (IsKey word.now → ⊥) (λ k. word.now ≡ spelt k) }
 {
-    match std::str::from_utf8(word) {
-        Ok(text) => key_named(text),
-        Err(_) => None,
-    }
+    key_named(std::str::from_utf8(word).ok()?)
 }
 
 impl<'a> Token<'a> {
-    fn new(key: Key, value: &'a [u8]) -> Token<'a>
+    pub fn new(key: Key, value: &'a [u8]) -> Token<'a>
         ensures { (key_of result ≡ key) × (value_of result ≡ value.now) }
     {
         match key {
@@ -81,7 +61,7 @@ impl<'a> Token<'a> {
         }
     }
 
-    fn key(self) -> Key
+    pub fn key(self) -> Key
         ensures { result ≡ key_of self.entry }
     {
         match self {
@@ -97,69 +77,19 @@ impl<'a> Token<'a> {
         }
     }
 
-    fn value(self) -> &'a [u8]
+    pub fn value(self) -> &'a [u8]
         ensures { result.now ≡ value_of self.entry }
     {
         match self {
-            Token::Stops(value) => value,
-            Token::States(value) => value,
-            Token::Inputs(value) => value,
-            Token::Train(value) => value,
-            Token::Stop(value) => value,
-            Token::Weight(value) => value,
-            Token::Late(value) => value,
-            Token::Move(value) => value,
-            Token::Aim(value) => value,
+            Token::Stops(value)
+            | Token::States(value)
+            | Token::Inputs(value)
+            | Token::Train(value)
+            | Token::Stop(value)
+            | Token::Weight(value)
+            | Token::Late(value)
+            | Token::Move(value)
+            | Token::Aim(value) => value,
         }
     }
-}
-
-// The index of the first such byte from `from` on, or the length where there is none.
-pub fn find(bytes: &[u8], from: usize, byte: u8) -> usize
-    requires { from ≤ length bytes.now }
-    ensures { Found bytes.now from byte result }
-{
-    for i in from..bytes.len() {
-        if bytes[i] == byte {
-            return i;
-        }
-    }
-    bytes.len()
-}
-
-// The line at a place, if it has an end, a `=` and a key of a feed.
-fn next_line(feed: &[u8], from: Place) -> Option<Line<'_>>
-    requires { InFeed feed.now from }
-    ensures { MatchOption result ((k : Key) → HasNoLine (spelt k) (drop from.at feed.now)) (λ l. LineAt feed.now from (key_of l.token) (value_of l.token) l.next) }
-{
-    let at = from.at;
-    let end = find(feed, at, b'\n');
-    let mid = find(feed, at, b'=');
-    if end == feed.len() || mid > end {
-        return None;
-    }
-    let key = key_in(&feed[at..mid])?;
-    let token = Token::new(key, &feed[mid + 1..end]);
-    let next = Place {
-        line: from.line + 1,
-        at: end + 1,
-    };
-    Some(Line { token, next })
-}
-
-// The value of the line at a place, which is to have this key.
-pub fn expect(feed: &[u8], from: Place, key: Key) -> Result<Field<'_>, FeedFault>
-    requires { InFeed feed.now from }
-    ensures { MatchResult result (λ f. LineAt feed.now from key f.value.now f.next) (λ e. (e ≡ NoLine from.line) × HasNoLine (spelt key) (drop from.at feed.now)) }
-{
-    let Some(line) = next_line(feed, from) else {
-        return Err(FeedFault::NoLine { line: from.line });
-    };
-    if line.token.key() != key {
-        return Err(FeedFault::NoLine { line: from.line });
-    }
-    Ok(Field {
-        value: line.token.value(),
-        next: line.next,
-    })
 }

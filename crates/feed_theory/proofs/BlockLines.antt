@@ -1,10 +1,11 @@
 -- A block read line by line. Assumes nothing.
-use Rattle.std.proofs.Common.{◌≡◌, ℕ, zero, suc, ◌+◌, ◌-◌, ◌<◌, ◌≤◌, true, false, eqb, List, [], ◌∷◌, ◌++◌, length, get_or, take, drop, replicate, ℤ, pos, decimal, sym, refl, ap, ◌∙◌, subst, append_assoc, append-nil, add-zero, arith, lit≤}
+use Rattle.std.proofs.Common.{◌≡◌, ℕ, zero, suc, ◌+◌, ◌-◌, ◌<◌, ◌≤◌, List, [], ◌∷◌, ◌++◌, length, get_or, take, drop, replicate, ℤ, pos, decimal, sym, refl, ap, ◌∙◌, subst, append_assoc, append-nil, add-zero, arith, lit≤}
 use Rattle.std.specs.Fmt.{signed_decimal}
 use Rattle.std.specs.List.{AllByRecursion}
 use Rattle.std.proofs.lemmas.Fmt.{decimal_injective}
-use Rattle.std.proofs.lemmas.List.{append_cancel_left, append_cancel_right, take_more, take-replicate, replicate-append-replicate, length-replicate}
-use Rattle.std.proofs.lemmas.Bool.{eqb-true, false≢true}
+use Rattle.std.proofs.ByRecursion.{All-take}
+use Rattle.feed_theory.proofs.Words.{same_from_commas}
+use Rattle.std.proofs.lemmas.List.{length-take-le, append_cancel_left, append_cancel_right, take_more, take-replicate, replicate-append-replicate, length-replicate}
 use Rattle.feed_types.specs.declared.faults.FeedFault.{FeedFault}
 use Rattle.feed_types.specs.declared.faults.FeedFault.TheVariants.{TooLong, NoLine, BadValue, OtherSize, OtherValues, BookFull}
 use Rattle.feed_types.specs.declared.keys.Key.{Key}
@@ -89,16 +90,16 @@ module _ (s : Sizes) (t : Train) where
   unfolding block
   next_weight v n = (n.train.weight, n.good.weight.0, n.good.weight.1, sym (same_from_line (spelt key.Weight) _ v n.next))
 
-  pub next_late : (v : List ℕ) → NextLine s t 3 v → Lists s.states 4 (λ zs. false ≡ true → AllZero zs) v
+  pub next_late : (v : List ℕ) → NextLine s t 3 v → Lists s.states 4 (λ _. Unit {0}) v
   unfolding block
-  next_late v n = (n.train.late, n.good.late, (λ e. absurd (false≢true e)), sym (same_from_line (spelt key.Late) _ v n.next))
+  next_late v n = (n.train.late, n.good.late, tt, sym (same_from_line (spelt key.Late) _ v n.next))
 
-  pub next_move : s.stops ≤ 24 → t.stop ≤ s.stops → (v : List ℕ) → NextLine s t 4 v → Lists s.inputs 3 (λ zs. eqb t.stop s.stops ≡ true → AllZero zs) v
+  pub next_move : s.stops ≤ 24 → t.stop ≤ s.stops → (v : List ℕ) → NextLine s t 4 v → Lists s.inputs 3 (λ zs. t.stop ≡ s.stops → AllZero zs) v
   unfolding block
   next_move limit stop v n = (
     n.train.moves,
     n.good.moves,
-    (λ e. n.good.last (decimal_injective n.train.stop t.stop (omega (arith, n.good.stop)) (omega arith) (same_from_line (spelt key.Stop) _ _ (ap (λ (l : List (List ℕ)). get_or l 1 []) n.same)) ∙ eqb-true t.stop s.stops e)),
+    (λ e. n.good.last (decimal_injective n.train.stop t.stop (omega (arith, n.good.stop)) (omega arith) (same_from_line (spelt key.Stop) _ _ (ap (λ (l : List (List ℕ)). get_or l 1 []) n.same)) ∙ e)),
     sym (same_from_line (spelt key.Move) _ v n.next),
   )
 
@@ -187,3 +188,29 @@ module _ (s : Sizes) (bs : List ℕ) (p : Place) (g : GoodSizes s) (h : InFeed b
             let all = one_line_more s bs p q r 5 (unread l n w xs ys) (record { stop = n; label = l; weight = w; late = xs; moves = ys; aim = z }) key.Aim (signed_decimal z) (omega arith) before at
             (record { label = before.good.label; stop = before.good.stop; weight = before.good.weight; late = before.good.late; moves = before.good.moves; last = before.good.last; aim = fine }) refl refl in
             record { good = all.good; whole = all.begins; number = all.number; below = omega (arith, all.below); next = all.next }
+
+zeros_are : (zs : List ℤ) (n : ℕ) → length zs ≡ n → AllZero zs → zs ≡ replicate n (pos 0)
+zeros_are zs n e h = go zs h ∙ ap (λ (m : ℕ). replicate m (pos 0)) e
+  where
+    go : (zs : List ℤ) → AllZero zs → zs ≡ replicate (length zs) (pos 0)
+    go [] h = refl
+    go (z ∷ zs) h = λ i. h.0 i ∷ go zs h.1 i
+
+-- moves that are not all 0 are no moves of a train at the last stop
+pub moves_refused : (s : Sizes) (bs : List ℕ) (p q r : Place) (t : Train) (ys : List ℤ) → GoodSizes s → t.stop ≡ s.stops → ReadsTo s bs p 4 t q → Factors s.inputs 3 ys → LineAt bs q key.Move (commas (take s.inputs ys)) r → (ys ≡ no_moves → ⊥) → BadBlock s (drop p.at bs) p.line (BadValue q.line)
+moves_refused s bs p q r t ys g last before mine at other =
+    refused_line s bs p q 4 t (Lists s.inputs 3 (λ zs. t.stop ≡ s.stops → AllZero zs)) (BadValue q.line) (omega arith) before (next_move s t g.stops.1 before.good.stop) (
+      refl,
+      record {
+        value = commas (take s.inputs ys);
+        more = drop r.at bs;
+        plain = at.plain;
+        begins = at.whole;
+        broken = λ h.
+            let front = same_from_commas (take s.inputs h.0) (take s.inputs ys) (long h.0 h.1) (long ys mine) (All-take (Within 99) s.inputs h.0 h.1.small) (All-take (Within 99) s.inputs ys mine.small) (sym h.3) in
+            other (mine.padded ∙ ap (λ (l : List ℤ). l ++ replicate (3 - s.inputs) (pos 0)) (sym front) ∙ sym h.1.padded ∙ zeros_are h.0 3 h.1.long (h.2 last));
+      },
+    )
+  where
+    long : (zs : List ℤ) → Factors s.inputs 3 zs → 0 < length (take s.inputs zs)
+    long zs f = omega (arith, length-take-le s.inputs zs (omega (arith, f.long, g.inputs.1)), g.inputs.0)

@@ -1,10 +1,10 @@
 -- A list cut at the first of a byte. Assumes nothing.
-use Rattle.std.proofs.Common.{◌≡◌, ℕ, zero, suc, ◌+◌, ◌-◌, ◌<◌, ◌≤◌, List, [], ◌∷◌, ◌++◌, length, get_or, drop, sym, refl, ap, ◌∙◌, inl, inr, arith}
-use Rattle.std.specs.List.{between}
+use Rattle.std.proofs.Common.{None, Bool, cond, not, Some, ◌==◌, take, ◌≡◌, ℕ, zero, suc, ◌+◌, ◌<◌, List, [], ◌∷◌, ◌++◌, length, get_or, drop, sym, refl, ap, ◌∙◌, arith}
+use Rattle.std.specs.List.{position, position_or_len}
+use Rattle.std.proofs.lemmas.List.Quantifiers.{position-Some}
 use Rattle.std.specs.Str.Iter.{LacksByte}
-use Rattle.std.proofs.lemmas.List.{get_or_at, get_or_append_left, get_or-drop, get_or-take, drop_more, drop-drop, length-append, length-drop, length-take-le, take-append-drop}
-use Rattle.std.proofs.lemmas.Bool.{cases_order}
-use Rattle.feed_types.specs.Tokens.{Found}
+use Rattle.std.proofs.lemmas.List.{get_or-drop, get_or-take, drop_more, length-append, length-drop, length-take-le, take-append-drop}
+use Rattle.std.proofs.lemmas.Bool.{eqb-true, eqb-false, eq-eqb, ne_eqb, lt-ltb}
 
 -- the same list cut twice at its first c
 pub same_cut : (c : ℕ) (w v xs ys : List ℕ) → LacksByte c w → LacksByte c v → w ++ (c ∷ xs) ≡ v ++ (c ∷ ys) → (w ≡ v) × (xs ≡ ys)
@@ -15,42 +15,27 @@ same_cut c (a ∷ w) (b ∷ v) xs ys lw lv e =
     let rest = same_cut c w v xs ys (λ k h. lw (suc k) (omega arith)) (λ k h. lv (suc k) (omega arith)) (ap (drop 1) e) in
     ((λ i. ap (λ (l : List ℕ). get_or l 0 0) e i ∷ rest.0 i), rest.1)
 
--- what stands before the index that was found, and after it
-pub found_cut : (bs : List ℕ) (from c i : ℕ) → Found bs from c i → i < length bs → (drop from bs ≡ between from i bs ++ (c ∷ drop (i + 1) bs)) × LacksByte c (between from i bs)
-found_cut bs from c i f h = (
-  sym (take-append-drop (i - from) (drop from bs)) ∙ ap (λ (l : List ℕ). between from i bs ++ l) rest,
-  λ k within e. f.before (from + k) (omega arith) (omega (arith, long, within)) (sym (get_or-drop from bs k 0) ∙ sym (get_or-take (i - from) (drop from bs) k 0 (omega (arith, long, within))) ∙ e),
-)
-  where
-    low : from ≤ i
-    low = f.low
-
-    long : length (between from i bs) ≡ i - from
-    long = length-take-le (i - from) (drop from bs) (omega (arith, length-drop from bs))
-
-    rest : drop (i - from) (drop from bs) ≡ c ∷ drop (i + 1) bs
-    rest = drop-drop (i - from) from bs ∙ ap (λ (n : ℕ). drop n bs) (omega arith) ∙ drop_more bs i 0 h ∙ ap (λ (b : ℕ). b ∷ drop (i + 1) bs) (f.stops h)
+-- what stands before the first c, and after it
+pub first_cut : (c : ℕ) (bs : List ℕ) (i : ℕ) → position (λ b. b == c) bs ≡ Some i → (i < length bs) × (bs ≡ take i bs ++ (c ∷ drop (i + 1) bs)) × LacksByte c (take i bs)
+first_cut c bs i e =
+    let p = position-Some (λ b. b == c) bs i 0 e in (
+      p.0,
+      sym (take-append-drop i bs) ∙ ap (λ (l : List ℕ). take i bs ++ l) (drop_more bs i 0 p.0 ∙ ap (λ (b : ℕ). b ∷ drop (i + 1) bs) (eqb-true _ c p.1)),
+      λ k within q. eqb-false _ c (p.2 k (omega (arith, within, length-take-le i bs (omega (arith, p.0))))) (sym (get_or-take i bs k 0 (omega (arith, within, length-take-le i bs (omega (arith, p.0))))) ∙ q),
+    )
 
 -- a cut that is known tells the index
-pub found_at : (bs : List ℕ) (from c i : ℕ) (w xs : List ℕ) → Found bs from c i → from ≤ length bs → LacksByte c w → drop from bs ≡ w ++ (c ∷ xs) → (i ≡ from + length w) × (i < length bs)
-found_at bs from c i w xs f inside lw e = elim (cases_order i (from + length w)) [
-  | inl same ↦ (same, omega (arith, long))
-  | inr (inl below) ↦ absurd (lw (i - from) (omega (arith, long)) (sym (at (i - from) (omega (arith, long))) ∙ ap (λ (n : ℕ). get_or bs n 0) (omega (arith, long)) ∙ f.stops (omega (arith, long))))
-  | inr (inr above) ↦ absurd (f.before (from + length w) (omega (arith, long)) above (sym (get_or-drop from bs (length w) 0) ∙ ap (λ (l : List ℕ). get_or l (length w) 0) e ∙ get_or_at w c xs 0 (length w) refl))
-]
+pub first_at : (c : ℕ) (w xs : List ℕ) → LacksByte c w → position (λ b. b == c) (w ++ (c ∷ xs)) ≡ Some (length w)
+first_at c w xs l =
+    let all = first w l in
+    ap (λ (t : Bool). cond t (Some (position_or_len (λ b. b == c) (w ++ (c ∷ xs)))) None) (lt-ltb _ _ (omega (arith, all, length-append w (c ∷ xs)))) ∙ ap Some all
   where
-    low : from ≤ i
-    low = f.low
+    first : (v : List ℕ) → LacksByte c v → position_or_len (λ b. b == c) (v ++ (c ∷ xs)) ≡ length v
+    first [] h = ap (λ (t : Bool). cond (not t) (1 + position_or_len (λ b. b == c) xs) 0) (eq-eqb c c refl)
+    first (b ∷ v) h = ap (λ (t : Bool). cond (not t) (1 + position_or_len (λ b. b == c) (v ++ (c ∷ xs))) 0) (ne_eqb b c (h 0 (omega arith))) ∙ omega (arith, first v (λ k g. h (suc k) (omega arith)))
 
-    long : length bs ≡ from + (length w + suc (length xs))
-    long = omega (arith, length-drop from bs, ap length e, length-append w (c ∷ xs))
-
-    at : (k : ℕ) → k < length w → get_or bs (from + k) 0 ≡ get_or w k 0
-    at k h = sym (get_or-drop from bs k 0) ∙ ap (λ (l : List ℕ). get_or l k 0) e ∙ get_or_append_left w (c ∷ xs) 0 k h
-
--- found from a later index too
-pub found_later : (bs : List ℕ) (from to c i : ℕ) → Found bs from c i → from ≤ to → to ≤ i → Found bs to c i
-found_later bs from to c i f h k = record { low = k; high = f.high; before = λ j l. f.before j (omega arith); stops = f.stops }
+pub lacks_drop : (c n : ℕ) (w : List ℕ) → LacksByte c w → LacksByte c (drop n w)
+lacks_drop c n w l k h e = l (n + k) (omega (arith, h, length-drop n w)) (sym (get_or-drop n w k 0) ∙ e)
 
 -- both parts lack the byte
 pub lacks_append : (c : ℕ) (w v : List ℕ) → LacksByte c w → LacksByte c v → LacksByte c (w ++ v)

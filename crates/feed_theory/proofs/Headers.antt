@@ -1,5 +1,6 @@
 -- A header read line by line. Assumes nothing.
-use Rattle.std.proofs.Common.{◌≡◌, ℕ, zero, suc, ◌+◌, ◌-◌, ◌/◌, ◌<◌, ◌≤◌, List, [], ◌∷◌, ◌++◌, length, take, drop, decimal, Option, sym, refl, ap, ◌∙◌, subst, append_assoc, append-nil, add-one, arith, lit≤}
+use Rattle.std.specs.Option.{option_map}
+use Rattle.std.proofs.Common.{Some, None, ◌≡◌, ℕ, zero, suc, ◌+◌, ◌-◌, ◌/◌, ◌<◌, ◌≤◌, List, [], ◌∷◌, ◌++◌, length, take, drop, decimal, Option, sym, refl, ap, ◌∙◌, subst, append_assoc, append-nil, add-one, arith, lit≤}
 use native.Mathlib.Decide.{ℕ_discrete}
 use Rattle.feed_types.specs.declared.faults.FeedFault.{FeedFault}
 use Rattle.feed_types.specs.declared.faults.FeedFault.TheVariants.{TooLong, NoLine, BadValue, OtherSize, OtherValues, BookFull}
@@ -64,7 +65,7 @@ pub record HeaderTo (bs : List ℕ) (held : Option Sizes) (i : ℕ) (s : Sizes) 
   pub number : q.line ≡ suc i
   pub next : InFeed bs q
 
-abbrev ones : Sizes
+abbrev pub ones : Sizes
 ones = record { stops = 1; states = 1; inputs = 1 }
 
 pub no_line_yet : (bs : List ℕ) (held : Option Sizes) → HeaderTo bs held 0 ones (record { line = 1; at = 0 })
@@ -87,7 +88,7 @@ run_put s i n rest more h e =
 agrees_put : (held : Option Sizes) (s : Sizes) (i n : ℕ) → i < 3 → ((k : ℕ) → k < i → IsHeld held k (size_at k s)) → (k : ℕ) → k < i → IsHeld held k (size_at k (put i n s))
 agrees_put held s i n h a k lt u e = a k lt u e ∙ sym (size_kept s i n k lt h)
 
-pub one_size_more : (bs : List ℕ) (held : Option Sizes) (i n : ℕ) (s : Sizes) (q r : Place) → i < 3 → HeaderTo bs held i s q → ReadSize bs q (key_at i) i (limit i) held n r → HeaderTo bs held (suc i) (put i n s) r
+pub one_size_more : (bs : List ℕ) (held : Option Sizes) (i n : ℕ) (s : Sizes) (q r : Place) → i < 3 → HeaderTo bs held i s q → ReadSize bs q (key_at i) (limit i) (option_map (size_at i) held) n r → HeaderTo bs held (suc i) (put i n s) r
 one_size_more bs held i n s q r h t m = record {
   good = good_put s i n t.good m.low m.high;
   agrees = agrees;
@@ -100,8 +101,13 @@ one_size_more bs held i n s q r h t m = record {
     agrees k lt u e = go (ℕ_discrete k i)
       where
         go : Dec (k ≡ i) → size_at k u ≡ size_at k (put i n s)
-        go (yes same) = subst (λ (j : ℕ). size_at j u ≡ size_at j (put i n s)) (sym same) (m.agrees u e ∙ sym (size_put s i n))
+        go (yes same) = subst (λ (j : ℕ). size_at j u ≡ size_at j (put i n s)) (sym same) (m.agrees (size_at i u) (ap (option_map (size_at i)) e) ∙ sym (size_put s i n))
         go (no other) = agrees_put held s i n h t.agrees k (omega arith) u e
+
+-- a size of the book is that of its sizes
+book_size : (held : Option Sizes) (i m : ℕ) → option_map (size_at i) held ≡ Some m → (u : Sizes) × (held ≡ Some u) × (size_at i u ≡ m)
+book_size None i m e = cc
+book_size (Some u) i m e = (u, refl, cc)
 
 module _ (bs : List ℕ) (held : Option Sizes) (i : ℕ) (s : Sizes) (q : Place) (h : i < 3) (few : length bs ≤ 8192) (t : HeaderTo bs held i s q) (ts : List Train) where
   abbrev book : Register
@@ -114,7 +120,7 @@ module _ (bs : List ℕ) (held : Option Sizes) (i : ℕ) (s : Sizes) (q : Place)
       nothing zero = refl
       nothing (suc n) = refl
 
-  pub bad_size : (e : FeedFault) → BadSize (key_at i) i (limit i) held (drop q.at bs) q.line e → Refused bs book e
+  pub bad_size : (e : FeedFault) → BadSize (key_at i) (limit i) (option_map (size_at i) held) (drop q.at bs) q.line e → Refused bs book e
   bad_size TooLong b = absurd b
   bad_size (NoLine m) b = (
     few,
@@ -163,9 +169,9 @@ module _ (bs : List ℕ) (held : Option Sizes) (i : ℕ) (s : Sizes) (q : Place)
         starts = header_starts bs (suc i) (put i b.1.size s) b.1.more (good_put s i b.1.size t.good b.1.low b.1.high) (omega arith) (t.begins ∙ run_put s i b.1.size (drop q.at bs) b.1.more h b.1.begins);
         before = before (put i b.1.size s) (agrees_put held s i b.1.size h t.agrees);
         of_header = h;
-        held = b.1.sizes;
-        has = b.1.has;
-        differs = λ e. b.1.differs (e ∙ size_put s i b.1.size);
+        held = (book_size held i b.1.other b.1.has).0;
+        has = (book_size held i b.1.other b.1.has).1;
+        differs = λ e. b.1.differs (sym (book_size held i b.1.other b.1.has).2 ∙ e ∙ size_put s i b.1.size);
       },
     ),
   )

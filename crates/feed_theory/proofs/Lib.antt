@@ -1,3 +1,4 @@
+pub mod Partial
 pub mod Cuts
 pub mod Decimals
 pub mod Keys

@@ -5,7 +5,7 @@ use Rattle.std.proofs.lemmas.List.{get_or_append_left, get_or_push, get_or-take,
 use Rattle.std.proofs.lemmas.Bool.{false≢true, lt-ltb}
 use Rattle.feed_types.specs.declared.types.Sizes.{Sizes}
 use Rattle.feed_types.specs.declared.types.Train.{Train}
-use Rattle.feed_types.specs.Books.{at, no_train, SameTrain, Distinct, Keeps, sizes_for}
+use Rattle.feed_types.specs.Books.{at, no_train, SameTrain, Distinct, Keeps}
 use Rattle.feed_types.specs.Joining.{Absent}
 use Rattle.feed_types.specs.Limits.{GoodSizes, GoodTrain}
 use Rattle.feed_types.specs.Reading.{size_at}
@@ -55,12 +55,3 @@ distinct_take n ts d i j lt within same =
 pub keeps_take : (o : Option Sizes) (n : ℕ) (ts : List Train) → Keeps o ts → Keeps o (take n ts)
 keeps_take None n ts k = tt
 keeps_take (Some s) n ts k = (k.0, All-take (GoodTrain s) n ts k.1)
-
--- sizes go with the last train
-pub sizes_kept : (o : Option Sizes) (ts : List Train) → 0 < length ts → o ≡ sizes_for o ts
-sizes_kept o [] h = absurd (omega arith)
-sizes_kept o (t ∷ ts) h = refl
-
-pub sizes_gone : (o : Option Sizes) (ts : List Train) → length ts ≡ 0 → None ≡ sizes_for o ts
-sizes_gone o [] h = refl
-sizes_gone o (t ∷ ts) h = absurd (omega arith)

@@ -1,8 +1,9 @@
 -- Rows that are filled from the front, and labels without their padding. Assumes nothing.
-use Rattle.std.proofs.Common.{◌≡◌, ℕ, zero, suc, ◌+◌, ◌-◌, ◌<◌, ◌≤◌, true, List, [], ◌∷◌, ◌++◌, length, get_or, take, drop, set, replicate, sym, refl, ap, ◌∙◌, append_assoc, append-nil, arith}
-use Rattle.std.proofs.lemmas.List.{set_at, drop_more, take_more, drop_all}
-use Rattle.std.proofs.lemmas.Bool.{false≢true}
-use Rattle.std.specs.List.{AllByRecursion}
+use Rattle.std.proofs.Common.{unwrap_or, eqb, Bool, cond, not, ◌≡◌, ℕ, zero, suc, ◌+◌, ◌-◌, ◌<◌, true, List, [], ◌∷◌, ◌++◌, length, take, set, replicate, sym, refl, ap, ◌∙◌, append_assoc, arith}
+use Rattle.std.proofs.lemmas.List.{set_at}
+use Rattle.std.proofs.lemmas.Bool.{false≢true, ne_eqb}
+use Rattle.std.specs.List.{AllByRecursion, position, position_or_len, before_first}
+use Rattle.std.proofs.lemmas.Grind.{common_steps}
 use Rattle.feed_types.specs.Limits.{letter, unpadded}
 
 -- one more element takes the place of the first filler
@@ -20,24 +21,14 @@ unpadded_padded [] n h = no_letters n
 unpadded_padded (zero ∷ bs) n h = absurd (false≢true h.0)
 unpadded_padded (suc b ∷ bs) n h = ap (λ l. suc b ∷ l) (unpadded_padded bs n h.1)
 
--- past a byte that is no 0
-unpadded_cons : (b : ℕ) (bs : List ℕ) → (b ≡ 0 → ⊥) → unpadded (b ∷ bs) ≡ b ∷ unpadded bs
-unpadded_cons zero bs h = absurd (h refl)
-unpadded_cons (suc b) bs h = refl
+before_zero : (bs : List ℕ) → before_first (λ b. eqb b 0) bs ≡ unpadded bs
+before_zero [] = refl
+before_zero (zero ∷ bs) = grind arith
+before_zero (suc b ∷ bs) =
+    let n = position_or_len (λ b. eqb b 0) bs in
+    let one : position_or_len (λ b. eqb b 0) (suc b ∷ bs) ≡ suc n = ap (λ (t : Bool). cond (not t) (1 + n) 0) (ne_eqb (suc b) 0 (λ e. omega (arith, e))) ∙ omega arith in
+    ap (λ (m : ℕ). take m (suc b ∷ bs)) one ∙ ap (λ (l : List ℕ). suc b ∷ l) (before_zero bs)
 
-pub unpadded_more : (bs : List ℕ) (i : ℕ) → i < length bs → (get_or bs i 0 ≡ 0 → ⊥) → unpadded bs ≡ take i bs ++ unpadded (drop i bs) → unpadded bs ≡ take (i + 1) bs ++ unpadded (drop (i + 1) bs)
-unpadded_more bs i h ne e =
-    e
-    ∙ ap (λ (l : List ℕ). take i bs ++ unpadded l) (drop_more bs i 0 h)
-    ∙ ap (λ (l : List ℕ). take i bs ++ l) (unpadded_cons (get_or bs i 0) (drop (i + 1) bs) ne)
-    ∙ sym (append_assoc (take i bs) (get_or bs i 0 ∷ []) (unpadded (drop (i + 1) bs)))
-    ∙ ap (λ (l : List ℕ). l ++ unpadded (drop (i + 1) bs)) (sym (take_more bs i 0 h))
-
-pub unpadded_stop : (bs : List ℕ) (i : ℕ) → i < length bs → get_or bs i 0 ≡ 0 → unpadded bs ≡ take i bs ++ unpadded (drop i bs) → unpadded bs ≡ take i bs
-unpadded_stop bs i h z e =
-    e
-    ∙ ap (λ (l : List ℕ). take i bs ++ unpadded l) (drop_more bs i 0 h ∙ ap (λ (b : ℕ). b ∷ drop (i + 1) bs) z)
-    ∙ append-nil (take i bs)
-
-pub unpadded_end : (bs : List ℕ) (i : ℕ) → length bs ≤ i → unpadded bs ≡ take i bs ++ unpadded (drop i bs) → unpadded bs ≡ take i bs
-unpadded_end bs i h e = e ∙ ap (λ (l : List ℕ). take i bs ++ unpadded l) (drop_all i bs h) ∙ append-nil (take i bs)
+-- a label's letters are its bytes up to the first 0, or all of them
+pub unpadded_first : (bs : List ℕ) (n : ℕ) → length bs ≡ n → take (unwrap_or (position (λ b. eqb b 0) bs) n) bs ≡ unpadded bs
+unpadded_first bs n e = let front = before_zero bs in grind (arith, common_steps)

@@ -1,7 +1,7 @@
 -- A header or a block of a feed, read whole or refused at one of its lines. Assumes nothing.
 --
---   ReadSize bs p k i n q    the line of bs at p has the key k and the size n, which is size i of a book that has sizes; q is the place after it
---   BadSize k i n rest l e   e refuses the line l that begins rest: no line of the key k, no size from 1 to n, or not size i of the book
+--   ReadSize bs p k n o m q  the line of bs at p has the key k and the size m, from 1 to n, which is o's if o has one; q is the place after it
+--   BadSize k n o rest l e   e refuses the line l that begins rest: no line of the key k, no size from 1 to n, or not the size of o
 --   ReadHeader bs s q        bs begins with the header of the good sizes s, which are the book's if it has any; q is the place after it
 --   ReadBlock bs p s t q     the block of bs at the place p is that of the train t, which keeps to the limits of s; q is the place after it
 --   NextLine s t i v         some train within the limits of s has the first i lines of t's block, and then a line of value v
@@ -25,29 +25,29 @@ use Rattle.feed_types.specs.Tokens.{spelt, InFeed, LineAt}
 abbrev pub IsHeld : Option Sizes → ℕ → ℕ → Type 0
 IsHeld held k n = (s : Sizes) → held ≡ Some s → size_at k s ≡ n
 
-pub record ReadSize (bs : List ℕ) (p : Place) (k : Key) (i most : ℕ) (held : Option Sizes) (n : ℕ) (q : Place) : Type 0 where
+pub record ReadSize (bs : List ℕ) (p : Place) (k : Key) (most : ℕ) (held : Option ℕ) (n : ℕ) (q : Place) : Type 0 where
   pub low : 1 ≤ n
   pub high : n ≤ most
-  pub agrees : IsHeld held i n
+  pub agrees : (m : ℕ) → held ≡ Some m → m ≡ n
   pub line : LineAt bs p k (decimal n) q
 
-pub record NotHeld (k : Key) (i most : ℕ) (held : Option Sizes) (rest : List ℕ) : Type 0 where
+pub record NotHeld (k : Key) (most : ℕ) (held : Option ℕ) (rest : List ℕ) : Type 0 where
   pub size : ℕ
   pub low : 1 ≤ size
   pub high : size ≤ most
   pub more : List ℕ
   pub begins : rest ≡ line (spelt k) (decimal size) ++ more
-  pub sizes : Sizes
-  pub has : held ≡ Some sizes
-  pub differs : size_at i sizes ≢ size
+  pub other : ℕ
+  pub has : held ≡ Some other
+  pub differs : other ≢ size
 
-abbrev pub BadSize : Key → ℕ → ℕ → Option Sizes → List ℕ → ℕ → FeedFault → Type 0
-BadSize k i most held rest n TooLong = ⊥
-BadSize k i most held rest n (NoLine m) = BadLine k (Counts 1 most) rest n (NoLine m)
-BadSize k i most held rest n (BadValue m) = BadLine k (Counts 1 most) rest n (BadValue m)
-BadSize k i most held rest n (OtherSize m) = (m ≡ n) × NotHeld k i most held rest
-BadSize k i most held rest n (OtherValues m slot) = ⊥
-BadSize k i most held rest n (BookFull m) = ⊥
+abbrev pub BadSize : Key → ℕ → Option ℕ → List ℕ → ℕ → FeedFault → Type 0
+BadSize k most held rest n TooLong = ⊥
+BadSize k most held rest n (NoLine m) = BadLine k (Counts 1 most) rest n (NoLine m)
+BadSize k most held rest n (BadValue m) = BadLine k (Counts 1 most) rest n (BadValue m)
+BadSize k most held rest n (OtherSize m) = (m ≡ n) × NotHeld k most held rest
+BadSize k most held rest n (OtherValues m slot) = ⊥
+BadSize k most held rest n (BookFull m) = ⊥
 
 pub record ReadHeader (bs : List ℕ) (held : Option Sizes) (s : Sizes) (q : Place) : Type 0 where
   pub good : GoodSizes s

@@ -8,8 +8,7 @@
 --   header s, block s t           the three lines of the sizes s, the six lines of the train t
 --   lines f                       all lines of f: the header's, and each train's block in turn
 --   text f                        these lines in a row
---   ends bs                       how many bytes of bs end a line
-use Rattle.std.specs.Prelude.{ℕ, ◌+◌, cond, List, [], ◌∷◌, ◌++◌, map, take, ℤ, codes, decimal, ◌==◌}
+use Rattle.std.specs.Prelude.{ℕ, List, [], ◌∷◌, ◌++◌, map, take, ℤ, codes, decimal}
 use Rattle.std.specs.List.{flat_map, join_with_byte, AllByRecursion}
 use Rattle.std.specs.Fmt.{signed_decimal}
 use Rattle.feed_types.specs.declared.types.Sizes.{Sizes}
@@ -52,8 +51,3 @@ run_on ls = flat_map (λ l. l) ls
 
 abbrev pub text : Feed → List ℕ
 text f = run_on (lines f)
-
--- how many bytes end a line
-abbrev pub ends : List ℕ → ℕ
-ends [] = 0
-ends (b ∷ bs) = cond (b == 10) 1 0 + ends bs

@@ -2,11 +2,10 @@
 --
 --   spelt k                the bytes of the key k
 --   IsKey bs               bs spells a key of a feed
---   Found bs from byte i   i is the first index of the byte in bs from `from` on, or the length of bs where there is none
 --   InFeed bs p            the place p lies in bs
 --   HasNoLine key rest     rest does not begin with a line of this key
 --   LineAt bs p k v q      the line of bs at the place p has the key k and the value v, and q is the next line's place
-use Rattle.std.specs.Prelude.{◌≡◌, ℕ, ◌+◌, ◌<◌, ◌≤◌, List, ◌++◌, length, drop, codes, ◌≢◌, slice_index}
+use Rattle.std.specs.Prelude.{◌≡◌, ℕ, ◌+◌, ◌<◌, ◌≤◌, List, ◌++◌, length, drop, codes, ◌≢◌}
 use Rattle.std.specs.Str.Iter.{LacksByte}
 use Rattle.feed_types.specs.declared.keys.Key.{Key}
 use Rattle.feed_types.specs.declared.keys.Key.TheVariants as key
@@ -31,12 +30,6 @@ IsKey bs = (k : Key) × (bs ≡ spelt k)
 pub record InFeed (bs : List ℕ) (p : Place) : Type 0 where
   pub within : p.at ≤ length bs
   pub lines : p.line ≤ p.at + 1
-
-pub record Found (bs : List ℕ) (from byte i : ℕ) : Type 0 where
-  pub low : from ≤ i
-  pub high : i ≤ length bs
-  pub before : (k : ℕ) → from ≤ k → k < i → slice_index bs k ≢ byte
-  pub stops : i < length bs → slice_index bs i ≡ byte
 
 abbrev pub HasNoLine : List ℕ → List ℕ → Type 0
 HasNoLine key rest = (value more : List ℕ) → LacksByte 10 value → rest ≢ line key value ++ more

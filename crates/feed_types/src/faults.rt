@@ -42,11 +42,11 @@ impl FeedFault {
     {
         match self {
             FeedFault::TooLong => None,
-            FeedFault::NoLine { line } => Some(line),
-            FeedFault::BadValue { line } => Some(line),
-            FeedFault::OtherSize { line } => Some(line),
-            FeedFault::OtherValues { line, .. } => Some(line),
-            FeedFault::BookFull { line } => Some(line),
+            FeedFault::NoLine { line }
+            | FeedFault::BadValue { line }
+            | FeedFault::OtherSize { line }
+            | FeedFault::OtherValues { line, .. }
+            | FeedFault::BookFull { line } => Some(line),
         }
     }
 
@@ -86,3 +86,5 @@ impl fmt::Display for FeedFault {
         }
     }
 }
+
+impl std::error::Error for FeedFault {}

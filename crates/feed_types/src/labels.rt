@@ -1,15 +1,15 @@
-// Labels made and compared, and trains compared.
-ghost use Rattle.std.specs.Prelude.{◌≡◌, Decides, MatchOption};
+// Labels made, read and printed.
+ghost use Rattle.std.specs.Prelude.{◌≡◌, MatchOption};
 ghost use Rattle.feed_types.specs.Limits.{letter, name, LabelText, GoodLabel};
 
-use super::types::{Label, Train};
+use super::types::Label;
 use std::fmt;
 
 // Whether the byte may stand in a label.
 fn is_letter(b: u8) -> bool
     ensures { result ≡ letter b }
 {
-    (b >= b'A' && b <= b'Z') || (b >= b'0' && b <= b'9')
+    matches!(b, b'A'..=b'Z' | b'0'..=b'9')
 }
 
 impl Label {
@@ -34,36 +34,8 @@ impl Label {
     pub fn text(&self) -> &[u8]
         ensures { result.now ≡ name self.now }
     {
-        for (i, b) in self.bytes.iter().enumerate() {
-            if *b == 0 {
-                return &self.bytes[0..i];
-            }
-        }
-        &self.bytes[0..8]
-    }
-}
-
-impl Label {
-    // Whether two labels are the same, padding and all.
-    pub fn same(&self, other: &Label) -> bool
-        ensures { Decides result (self.now ≡ other.now) }
-    {
-        self.bytes == other.bytes
-    }
-}
-
-impl Train {
-    // Whether two trains have the same values, stop and label included.
-    pub fn same(&self, other: &Train) -> bool
-        ensures { Decides result (self.now ≡ other.now) }
-    {
-        if self.stop != other.stop || self.weight != other.weight || self.aim != other.aim {
-            return false;
-        }
-        if !self.label.same(&other.label) {
-            return false;
-        }
-        self.late == other.late && self.moves == other.moves
+        let end = self.bytes.iter().position(|b| *b == 0).unwrap_or(8);
+        &self.bytes[..end]
     }
 }
 

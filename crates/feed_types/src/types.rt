@@ -9,6 +9,7 @@ pub struct Sizes {
 }
 
 // A train's label: 1 to 8 capital letters or digits, and then zeros up to the eighth byte.
+// A fixed row, as `late` and `moves` are below: a train is copied and wants no memory of its own.
 #[derive(Clone, Copy, PartialEq, Eq, Debug)]
 pub struct Label {
     pub bytes: [u8; 8],

@@ -4,4 +4,4 @@
 pub mod book;
 
 // The longest feed.
-pub const MOST_BYTES: usize = 8192;
+pub use feed_lines::MOST_BYTES;

@@ -37,23 +37,17 @@ impl Book {
     pub(super) fn slot_of(&self, train: &Train) -> Option<usize>
         ensures { MatchOption result (Absent (held self.now).trains train.now) (λ k. Stands (held self.now).trains k train.now) }
     {
-        for (k, t) in self.trains.iter().enumerate() {
-            if t.stop == train.stop && t.label.same(&train.label) {
-                return Some(k);
-            }
-        }
-        None
+        self.trains
+            .iter()
+            .position(|t| t.stop == train.stop && t.label == train.label)
     }
 
     // The slot where a train of this stop and label stands. No train has a label that breaks the rules of labels.
     pub fn find(&self, stop: usize, label: &[u8]) -> Option<usize>
         ensures { MatchOption result ((k : ℕ) → StandsNamed (held self.now).trains k stop label.now → ⊥) (λ k. StandsNamed (held self.now).trains k stop label.now) }
     {
-        for (slot, t) in self.trains.iter().enumerate() {
-            if usize::from(t.stop) == stop && t.label.text() == label {
-                return Some(slot);
-            }
-        }
-        None
+        self.trains
+            .iter()
+            .position(|t| usize::from(t.stop) == stop && t.label.text() == label)
     }
 }

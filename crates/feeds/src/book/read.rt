@@ -7,14 +7,11 @@ ghost use Rattle.feed_types.specs.Joining.{Joins, NotJoined};
 ghost use Rattle.feed_types.specs.Limits.{GoodSizes, GoodTrain};
 ghost use Rattle.feed_types.specs.Reading.{Agreed, Reading};
 ghost use Rattle.feed_types.specs.Progress.{JoinedTo, Stuck};
-ghost use Rattle.feed_types.specs.Tokens.{InFeed};
 ghost use Rattle.feed_types.specs.declared.keys.Place.{Place};
 
-use super::super::MOST_BYTES;
 use super::{Book, MOST_TRAINS};
-use feed_lines::blocks::{read_block, read_header};
+use feed_lines::blocks::Blocks;
 use feed_types::faults::FeedFault;
-use feed_types::keys::Place;
 use feed_types::types::{Sizes, Train};
 
 impl Book {
@@ -28,7 +25,7 @@ impl Book {
     {
         match self.slot_of(&train) {
             Some(slot) => {
-                if self.trains[slot].same(&train) {
+                if self.trains[slot] == train {
                     Ok(())
                 } else {
                     Err(FeedFault::OtherValues { line, slot })
@@ -45,20 +42,15 @@ impl Book {
         }
     }
 
-    // Joins the trains of the blocks from a place on, up to the first block that is refused.
-    fn join_blocks(&mut self, feed: &[u8], from: Place, sizes: Sizes) -> Result<(), FeedFault>
-        requires place { InFeed feed.now from }
-        requires good { GoodSizes sizes }
-        requires fits { Agreed (held self.old) sizes }
-        ensures { MatchResult result
-            (λ _. (q : Place) × JoinedTo feed.now sizes from (held self.old) (held self.new) q × (q.at ≡ length feed.now))
-            (λ e. (q : Place) × JoinedTo feed.now sizes from (held self.old) (held self.new) q × Stuck feed.now sizes (held self.new) q e) }
+    // Joins the trains of the blocks that are left, up to the first block that is refused.
+    fn join_blocks(&mut self, mut rest: Blocks) -> Result<(), FeedFault>
+        requires { Agreed (held self.old) rest.sizes }
+        ensures { let feed = rest.entry.lines.feed.now in let from = rest.entry.lines.place in let sizes = rest.entry.sizes in MatchResult result
+            (λ _. (q : Place) × JoinedTo feed sizes from (held self.old) (held self.new) q × (q.at ≡ length feed))
+            (λ e. (q : Place) × JoinedTo feed sizes from (held self.old) (held self.new) q × Stuck feed sizes (held self.new) q e) }
     {
-        let mut place = from;
-        while place.at < feed.len() {
-            let (train, next) = read_block(feed, place, sizes)?;
-            self.join(train, sizes, place.line + 5)?;
-            place = next;
+        while let Some((train, line)) = rest.next_block()? {
+            self.join(train, rest.sizes(), line)?;
         }
         Ok(())
     }
@@ -89,12 +81,9 @@ impl Book {
     fn take_in(&mut self, feed: &[u8]) -> Result<usize, FeedFault>
         ensures { Reading feed.now (held self.old) result (held self.new) }
     {
-        if feed.len() > MOST_BYTES {
-            return Err(FeedFault::TooLong);
-        }
-        let (sizes, from) = read_header(feed, self.sizes)?;
+        let rest = Blocks::new(feed, self.sizes)?;
         let before = self.trains.len();
-        match self.join_blocks(feed, from, sizes) {
+        match self.join_blocks(rest) {
             Ok(()) => Ok(self.trains.len() - before),
             Err(fault) => {
                 self.keep_first(before);

@@ -1,6 +1,14 @@
-use Rattle.std.proofs.Common.{IsUtf8, sym, subst}
+use Rattle.std.proofs.Common.{◌≡◌, IsUtf8, sym, subst, rules}
 use Rattle.feed_theory.proofs.Keys.{spelt_utf8}
+use Rattle.feed_theory.proofs.Partial.{utf8_kept}
 use Rattle.feed_lines.proofs.tokens.key_in.Goals as goal
 
-pub returns-in-Err : goal.returns-in-Err
-returns-in-Err c (k, e) = c.in-Err.ensures.cases.0 (subst IsUtf8 (sym e) (spelt_utf8 k))
+pub returns-in_err-ok : goal.returns-in_err-ok
+returns-in_err-ok c = rw c.from_residual.ensures (λ (k, e).
+    let told : IsUtf8 c.args.word.now → ⊥ = rw (sym c.in_err-ok.ensures.value) at (utf8_kept c.args.word.now _ c.from_utf8.result c.from_utf8.ensures.cases) in
+    told (subst IsUtf8 (sym e) (spelt_utf8 k)))
+
+pub returns : goal.returns
+returns c =
+    let same : c.in_ok-ok.field-0.now ≡ c.args.word.now = rw (sym c.in_ok-ok.ensures.value) at (utf8_kept c.args.word.now _ c.from_utf8.result c.from_utf8.ensures.cases) in
+    search rules

@@ -1,49 +1,42 @@
-use Rattle.std.proofs.Common.{◌≡◌, ℕ, ◌+◌, ◌<◌, ◌≤◌, Bool, true, false, not, ltb, ◌⊎◌, set, ℤ, sym, refl, subst, inl, inr, arith}
-use mathlib.Core.Bool.{beq}
-use Rattle.std.proofs.lemmas.Bool.{ltb-true, ltb-false, true≢false, false≢true}
+use Rattle.std.proofs.Common.{◌≡◌, eqb, length, sym, ◌∙◌, arith, rules, tests}
+use Rattle.std.proofs.lemmas.Iterator.Consumers.{YieldsList-at, YieldsList-from_enumerate, YieldsList-turn, YieldsList-end, count_from_yields_List}
+use Rattle.std.proofs.lemmas.Iterator.Splits.{YieldsList-from_slice_split}
+use Rattle.std.proofs.lemmas.List.FromFn.{length-enumerate_from}
+use Rattle.std.proofs.lemmas.List.{length_push}
 use Rattle.feed_theory.proofs.Decimals.{narrowed}
-use Rattle.feed_theory.proofs.Words.{Sofar, sofar_none, sofar_more, sofar_all, wrong_count, wrong_word}
+use Rattle.feed_theory.proofs.Words.{words, filled_more, filled_all, words_many, word_read, word_at}
 use Rattle.feed_lines.proofs.values.factors.Goals as goal
 
-differ : (a b c d : ℕ) → not (beq (ltb a b) (ltb c d)) ≡ true → ((a < b) × (d ≤ c)) ⊎ ((b ≤ a) × (c < d))
-differ a b c d e = go (ltb a b) (ltb c d) refl refl e
-  where
-    go : (s t : Bool) → ltb a b ≡ s → ltb c d ≡ t → not (beq s t) ≡ true → ((a < b) × (d ≤ c)) ⊎ ((b ≤ a) × (c < d))
-    go true true p q h = absurd (false≢true h)
-    go true false p q h = inl (ltb-true a b p, ltb-false c d q)
-    go false true p q h = inr (ltb-false a b p, ltb-true c d q)
-    go false false p q h = absurd (false≢true h)
+pub returns-then-count-out : goal.returns-then-count-out
+returns-then-count-out c zs many small e =
+    let all : c.count.result ≡ length (words c.args.text.now) = count_from_yields_List _ _ c.count.ensures.ran (YieldsList-from_slice_split _ (λ b. eqb b 44) c.args.text.now c.split.ensures.rest c.split.ensures.done c.split.ensures.closure (λ x b q k. search (rules, tests))) in
+    c.if-count-out.true (all ∙ words_many c.args.text.now zs (omega arith) small e ∙ many)
 
-agree : (a b c d : ℕ) → not (beq (ltb a b) (ltb c d)) ≡ false → ((a < b) × (c < d)) ⊎ ((b ≤ a) × (d ≤ c))
-agree a b c d e = go (ltb a b) (ltb c d) refl refl e
-  where
-    go : (s t : Bool) → ltb a b ≡ s → ltb c d ≡ t → not (beq s t) ≡ false → ((a < b) × (c < d)) ⊎ ((b ≤ a) × (d ≤ c))
-    go true true p q h = inl (ltb-true a b p, ltb-true c d q)
-    go true false p q h = absurd (true≢false h)
-    go false true p q h = absurd (true≢false h)
-    go false false p q h = inr (ltb-false a b p, ltb-false c d q)
+pub returns-in_err-out : goal.returns-in_err-out
+returns-in_err-out c = rw c.from_residual.ensures (λ zs many small e.
+    let turn = YieldsList-turn (YieldsList-from_enumerate {s = c.into_iter-k-iterator.result} (YieldsList-at (cc) (YieldsList-from_slice_split {s = c.split-2.result} _ (λ b. eqb b 44) c.args.text.now c.split-2.ensures.rest c.split-2.ensures.done c.split-2.ensures.closure (λ x b q k. search (rules, tests)))) (cc)) c.loop-k.yielded _ c.loop-k.yielded_by _ _ (c.in-Some.k, c.in-Some.word) c.in-Some.is c.next.ensures.steps in
+    let word = word_at c.args.text.now (length c.loop-k.yielded) _ _ turn in
+    word_read c.args.text.now zs (omega arith) small e (length c.loop-k.yielded) (omega (arith, word.1, words_many c.args.text.now zs (omega arith) small e)) (λ z w q. c.in_err-out.ensures (z, w, sym word.2 ∙ q)))
 
-pub loop-k-init : goal.loop-k-init
-loop-k-init g c = sofar_none c.args.text.now c.args.count g.row.N c.requires.0
-
-pub returns-then-end-text : goal.returns-then-end-text
-returns-then-end-text g c zs many small e =
-    wrong_count c.args.text.now c.args.count g.row.N c.loop-k.k c.loop-k.at c.find-end.result c.loop-k.out c.loop-k.invariant c.loop-k-test.true c.requires.1 c.find-end.ensures zs many small e
-    (differ _ _ _ _ c.if-end-text.true)
-
-pub returns-in_err-z : goal.returns-in_err-z
-returns-in_err-z g c = rw c.from_residual.ensures (λ zs many small e.
-    wrong_word c.args.text.now c.args.count g.row.N c.loop-k.k c.loop-k.at c.find-end.result c.loop-k.out c.loop-k.invariant c.loop-k-test.true c.requires.1 c.find-end.ensures zs many small e
-    c.in_err-z.ensures)
+pub bounds-out-k : goal.bounds-out-k
+bounds-out-k c =
+    let all : c.count.result ≡ length (words c.args.text.now) = count_from_yields_List _ _ c.count.ensures.ran (YieldsList-from_slice_split _ (λ b. eqb b 44) c.args.text.now c.split.ensures.rest c.split.ensures.done c.split.ensures.closure (λ x b q k. search (rules, tests))) in
+    let turn = YieldsList-turn (YieldsList-from_enumerate {s = c.into_iter-k-iterator.result} (YieldsList-at (cc) (YieldsList-from_slice_split {s = c.split-2.result} _ (λ b. eqb b 44) c.args.text.now c.split-2.ensures.rest c.split-2.ensures.done c.split-2.ensures.closure (λ x b q k. search (rules, tests)))) (cc)) c.loop-k.yielded _ c.loop-k.yielded_by _ _ (c.in-Some.k, c.in-Some.word) c.in-Some.is c.next.ensures.steps in
+    let word = word_at c.args.text.now (length c.loop-k.yielded) _ _ turn in
+    omega (arith, all, c.if-count-out.false, word.0, word.1, c.loop-k.auto.out)
 
 pub loop-k-preserved : goal.loop-k-preserved
-loop-k-preserved g c =
-    let z = c.in_ok-z.z in
-    let told = c.in_ok-z.ensures in
-    subst (λ (y : ℤ). Sofar c.args.text.now c.args.count g.row.N (c.loop-k.k + 1) (c.find-end.result + 1) (set c.loop-k.out c.loop-k.k y)) (sym (narrowed z told.0))
-    (sofar_more c.args.text.now c.args.count g.row.N c.loop-k.k c.loop-k.at c.find-end.result c.loop-k.out c.loop-k.invariant c.loop-k-test.true c.requires.1 c.find-end.ensures z told.0 told.1 (agree _ _ _ _ c.if-end-text.false))
+loop-k-preserved c =
+    let all : c.count.result ≡ length (words c.args.text.now) = count_from_yields_List _ _ c.count.ensures.ran (YieldsList-from_slice_split _ (λ b. eqb b 44) c.args.text.now c.split.ensures.rest c.split.ensures.done c.split.ensures.closure (λ x b q k. search (rules, tests))) in
+    let turn = YieldsList-turn (YieldsList-from_enumerate {s = c.into_iter-k-iterator.result} (YieldsList-at (cc) (YieldsList-from_slice_split {s = c.split-2.result} _ (λ b. eqb b 44) c.args.text.now c.split-2.ensures.rest c.split-2.ensures.done c.split-2.ensures.closure (λ x b q k. search (rules, tests)))) (cc)) c.loop-k.yielded _ c.loop-k.yielded_by _ _ (c.in-Some.k, c.in-Some.word) c.in-Some.is c.next.ensures.steps in
+    let word = word_at c.args.text.now (length c.loop-k.yielded) _ _ turn in
+    let read = c.in_ok-out.ensures in
+    rw (length_push, word.0, narrowed c.in_ok-out.field-0 read.0)
+    (filled_more c.args.text.now (length c.loop-k.yielded) c.loop-k.out c.in_ok-out.field-0 c.loop-k.invariant (omega (arith, all, word.1, c.if-count-out.false, c.loop-k.auto.out)) word.1 read.0 (word.2 ∙ read.1))
 
 pub returns : goal.returns
-returns g c =
-    let at_end : c.loop-k.k ≡ c.args.count = omega arith in
-    sofar_all c.args.text.now c.args.count g.row.N c.loop-k.at c.loop-k.out c.requires.1 (subst (λ (k : ℕ). Sofar c.args.text.now c.args.count g.row.N k c.loop-k.at c.loop-k.out) at_end c.loop-k.invariant)
+returns c =
+    let all : c.count.result ≡ length (words c.args.text.now) = count_from_yields_List _ _ c.count.ensures.ran (YieldsList-from_slice_split _ (λ b. eqb b 44) c.args.text.now c.split.ensures.rest c.split.ensures.done c.split.ensures.closure (λ x b q k. search (rules, tests))) in
+    let end = YieldsList-end (YieldsList-from_enumerate {s = c.into_iter-k-iterator.result} (YieldsList-at (cc) (YieldsList-from_slice_split {s = c.split-2.result} _ (λ b. eqb b 44) c.args.text.now c.split-2.ensures.rest c.split-2.ensures.done c.split-2.ensures.closure (λ x b q k. search (rules, tests)))) (cc)) c.loop-k.yielded _ c.loop-k.yielded_by _ _ c.in-None.is c.next.ensures.steps in
+    let many = length-enumerate_from 0 (words c.args.text.now) in
+    filled_all c.args.text.now (length c.loop-k.yielded) c.loop-k.out (omega (arith, all, end.1, many, c.if-count-out.false, c.loop-k.auto.out)) (omega (arith, end.1, many)) c.loop-k.invariant

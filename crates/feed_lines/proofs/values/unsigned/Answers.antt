@@ -1,37 +1,41 @@
-use Rattle.std.proofs.Common.{◌≡◌, ℕ, ◌+◌, ◌-◌, ◌*◌, ◌<◌, true, List, length, get_or, sym, subst, ⊎_elim, arith}
-use Rattle.std.specs.Char.{is_ascii_digit}
-use Rattle.std.proofs.lemmas.Bool.{eqb-true, eqb-false}
-use Rattle.feed_theory.proofs.Decimals.{Sofar, sofar_more, no_digit, too_large, empty_text, leading_zero, all_read}
+use Rattle.std.proofs.Common.{◌≡◌, IsUtf8, sym, ◌∙◌, subst, ⊎_elim, arith}
+use Rattle.std.proofs.lemmas.Fmt.{decimal_injective}
+use Rattle.feed_theory.proofs.Partial.{utf8_kept, no_first, first_is}
+use Rattle.feed_theory.proofs.Decimals.{empty_text, no_plus, leading_zero, utf8_decimal, parsed}
 use Rattle.feed_lines.proofs.values.unsigned.Goals as goal
+use Rattle.feed_lines.proofs.values.unsigned.Goals.{then-first-eq43-via-then-first-eq43, then-first-eq43-via-else-first-eq43+then-text-gt1}
 
-pub returns-then-is_empty : goal.returns-then-is_empty
-returns-then-is_empty c n h e = empty_text n (omega arith) c.args.text.now (eqb-true _ 0 (sym c.if-is_empty.ensures)) e
+pub returns-in_err-first : goal.returns-in_err-first
+returns-in_err-first c = rw c.from_residual.ensures (λ (n, l, h, e). empty_text n (omega arith) c.args.text.now (no_first _ c.in_err-first.ensures.value) e)
 
-pub returns-then-text-gt1 : goal.returns-then-text-gt1
-returns-then-text-gt1 c n h e = leading_zero n (omega arith) c.args.text.now c.if-text-eq48.true c.if-text-gt1.true e
+pub returns-then-first-eq43 : goal.returns-then-first-eq43
+returns-then-first-eq43 c (n, l, h, e) =
+    let first = sym (first_is _ _ c.in_ok-first.ensures.value) in
+    elim c.then-first-eq43.branch [
+      | then-first-eq43-via-then-first-eq43 w ↦ no_plus n (omega arith) c.args.text.now (first ∙ w.if-first-eq43.true) e
+      | then-first-eq43-via-else-first-eq43+then-text-gt1 w ↦ leading_zero n (omega arith) c.args.text.now (first ∙ w.if-text-gt1.true.0) w.if-text-gt1.true.1 e
+    ]
 
-pub returns-then-not-is_ascii_digit : goal.returns-then-not-is_ascii_digit
-returns-then-not-is_ascii_digit c n h e =
-    no_digit c.args.text.now c.loop-b.b-index c.loop-b.n c.loop-b-test.true (sym c.if-not-is_ascii_digit.ensures.value) c.loop-b.invariant.0 n (omega arith) e
+pub returns-in_err-ok : goal.returns-in_err-ok
+returns-in_err-ok c = rw c.from_residual-in_err-ok.ensures (λ (n, l, h, e).
+    let told : IsUtf8 c.args.text.now → ⊥ = rw (sym c.in_err-ok.ensures.value) at (utf8_kept c.args.text.now _ c.from_utf8.result c.from_utf8.ensures.cases) in
+    told (subst IsUtf8 (sym e) (utf8_decimal n (omega arith))))
 
--- the digit that was read is added to what is written before it
-one_more : (bs : List ℕ) (i n d : ℕ) → i < length bs → true ≡ is_ascii_digit (get_or bs i 0) → d ≡ get_or bs i 0 - 48 → Sofar bs i n → Sofar bs (i + 1) (n * 10 + d)
-one_more bs i n d h digit e s = subst (λ m. Sofar bs (i + 1) (n * 10 + m)) (sym e) (sofar_more bs i n h (sym digit) s)
+pub returns-in_err-n : goal.returns-in_err-n
+returns-in_err-n c = rw c.from_residual-in_err-n.ensures (λ (n, l, h, e).
+    let same : c.in_ok-ok.field-0.now ≡ c.args.text.now = rw (sym c.in_ok-ok.ensures.value) at (utf8_kept c.args.text.now _ c.from_utf8.result c.from_utf8.ensures.cases) in
+    let told = rw (sym c.in_err-n.ensures.value) at (parsed c.args.text.now _ _ c.parse.result same c.in_ok-first.ensures.value c.if-first-eq43.false c.if-text-gt1.either c.parse.ensures.value.0) in
+    told n (omega arith) e)
 
 pub returns-then-n-most : goal.returns-then-n-most
-returns-then-n-most c n h e =
-    let s = one_more c.args.text.now c.loop-b.b-index c.loop-b.n c.from.result c.loop-b-test.true c.if-not-is_ascii_digit.ensures.value c.from.ensures c.loop-b.invariant.0 in
-    too_large _ _ _ c.args.most s c.if-n-most.true n (omega arith) h e
+returns-then-n-most c =
+    let same : c.in_ok-ok.field-0.now ≡ c.args.text.now = rw (sym c.in_ok-ok.ensures.value) at (utf8_kept c.args.text.now _ c.from_utf8.result c.from_utf8.ensures.cases) in
+    let told = rw (sym c.in_ok-n.ensures.value) at (parsed c.args.text.now _ _ c.parse.result same c.in_ok-first.ensures.value c.if-first-eq43.false c.if-text-gt1.either c.parse.ensures.value.0) in
+    (omega arith, omega arith, told.1)
 
-pub loop-b-preserved : goal.loop-b-preserved
-loop-b-preserved c = (
-  one_more c.args.text.now c.loop-b.b-index c.loop-b.n c.from.result c.loop-b-test.true c.if-not-is_ascii_digit.ensures.value c.from.ensures c.loop-b.invariant.0,
-  c.if-n-most.false,
-)
-
-pub returns : goal.returns
-returns c = (
-  c.loop-b.invariant.1,
-  all_read c.args.text.now c.loop-b.b-index c.loop-b.n c.loop-b-test.false c.loop-b.invariant.0 (omega (arith, eqb-false _ 0 (sym c.if-is_empty.ensures)))
-      (λ z. ⊎_elim (λ p. omega (arith, p, eqb-false _ 0 (sym c.if-is_empty.ensures))) (λ p. absurd (p z)) c.else-text-eq48.either) (omega arith),
-)
+pub returns-else-least-n : goal.returns-else-least-n
+returns-else-least-n c (m, l, h, e) =
+    let same : c.in_ok-ok.field-0.now ≡ c.args.text.now = rw (sym c.in_ok-ok.ensures.value) at (utf8_kept c.args.text.now _ c.from_utf8.result c.from_utf8.ensures.cases) in
+    let told = rw (sym c.in_ok-n.ensures.value) at (parsed c.args.text.now _ _ c.parse.result same c.in_ok-first.ensures.value c.if-first-eq43.false c.if-text-gt1.either c.parse.ensures.value.0) in
+    let is : c.in_ok-n.n ≡ m = decimal_injective c.in_ok-n.n m (omega (arith, told.0)) (omega arith) (sym told.1 ∙ e) in
+    ⊎_elim (λ k. omega (arith, k.1, is)) (λ k. omega (arith, k, is)) c.else-least-n.either

@@ -1,14 +1,14 @@
-use Rattle.std.proofs.Common.{sym, rules}
-use Rattle.feed_types.proofs.Padding.{unpadded_stop, unpadded_more, unpadded_end}
+use Rattle.std.proofs.Common.{◌≡◌, eqb, length, rules, tests}
+use Rattle.std.specs.List.{position}
+use Rattle.std.proofs.lemmas.Iterator.{YieldsList-from_slice}
+use Rattle.std.proofs.lemmas.Iterator.Search.{position_from_yields_List}
+use Rattle.feed_types.proofs.Padding.{unpadded_first}
 use Rattle.feed_types.proofs.types.Label.text.Goals as goal
-
-pub returns-then-b-eq0 : goal.returns-then-b-eq0
-returns-then-b-eq0 c =
-    let e = unpadded_stop c.args.self.now.bytes c.loop-i.i (search rules) (search rules) c.loop-i.invariant in search (rules, sym e)
-
-pub loop-i-preserved : goal.loop-i-preserved
-loop-i-preserved c = unpadded_more c.args.self.now.bytes c.loop-i.i (search rules) (search rules) c.loop-i.invariant
 
 pub returns : goal.returns
 returns c =
-    let e = unpadded_end c.args.self.now.bytes c.loop-i.i (search rules) c.loop-i.invariant in search (rules, sym e)
+    let bs = c.args.self.now.bytes in
+    let found : c.position.result ≡ position (λ b. eqb b 0) bs = position_from_yields_List (λ b. eqb b 0) _ _ c.position.result c.position.ensures.ran (YieldsList-from_slice bs cc) (λ x b q k. search (rules, tests)) in
+    let long : length bs ≡ 8 = search rules in
+    let told = c.unwrap_or-end.ensures in
+    rw (told, found) (unpadded_first bs 8 long)

@@ -1,10 +1,14 @@
-use Rattle.std.proofs.Common.{◌-◌, length}
+use Rattle.std.proofs.Common.{◌≡◌, ◌-◌, length}
 use Rattle.feeds.specs.Held.{held}
 use Rattle.feed_types.specs.Progress.{JoinedTo}
 use Rattle.feeds.proofs.book.Book.join_blocks.Given as goal
 
-abbrev pub invariant-loop-place : goal.invariant-loop-place
-invariant-loop-place l = JoinedTo l.feed l.sizes l.initial.place (held l.initial.self) (held l.self) l.place
+abbrev pub invariant-loop-train : goal.invariant-loop-train
+invariant-loop-train l = record {
+  same : l.rest.lines.feed.now ≡ l.fn.rest.lines.feed.now;
+  sizes : l.rest.sizes ≡ l.fn.rest.sizes;
+  joined : JoinedTo l.fn.rest.lines.feed.now l.fn.rest.sizes l.fn.rest.lines.place (held l.fn.self) (held l.self) l.rest.lines.place;
+}
 
-abbrev pub decreases-loop-place : goal.decreases-loop-place
-decreases-loop-place l = length l.feed - l.place.at
+abbrev pub decreases-loop-train : goal.decreases-loop-train
+decreases-loop-train l = length l.rest.lines.feed.now - l.rest.lines.place.at
