@@ -1,16 +1,21 @@
 -- The lines of a header and of a block, read one after the other from a feed. Assumes nothing.
 use Rattle.std.specs.Option.{option_map}
-use Rattle.std.proofs.Common.{◌≡◌, ℕ, suc, ◌<◌, ◌≤◌, List, length, get_or, drop, Option, ◌∙◌, subst, subst₂}
+use Rattle.std.proofs.Common.{◌≡◌, ℕ, suc, ◌<◌, ◌≤◌, Bool, false, List, length, get_or, take, drop, Option, ℤ, decimal, Decides, refl, ◌∙◌, subst, subst₂, arith}
+use Rattle.std.specs.Fmt.{signed_decimal}
+use Rattle.std.proofs.lemmas.Bool.Decides.{not_from_Decides}
 use Rattle.feed_types.specs.declared.faults.FeedFault.{FeedFault}
 use Rattle.feed_types.specs.declared.types.Sizes.{Sizes}
 use Rattle.feed_types.specs.declared.types.Train.{Train}
 use Rattle.feed_types.specs.declared.keys.Key.{Key}
 use Rattle.feed_types.specs.declared.keys.Key.TheVariants as key
-use Rattle.feed_types.specs.declared.keys.Place.{Place}
 use Rattle.feed_types.specs.Blocks.{ReadSize, BadSize, BadBlock, NextLine, ReadBlock}
-use Rattle.feed_types.specs.Fields.{BadLine}
+use Rattle.feed_types.specs.Fields.{AllZero, BadLine}
 use Rattle.feed_types.specs.Tokens.{LineAt}
-use Rattle.feed_theory.proofs.BlockLines.{ReadsTo, refused_line}
+use Rattle.feed_types.specs.declared.faults.FeedFault.TheVariants.{BadValue}
+use Rattle.feed_types.specs.declared.types.Label.{Label}
+use Rattle.feed_types.specs.Limits.{GoodLabel, Factors, Within, name}
+use Rattle.feed_types.specs.Text.{commas}
+use Rattle.feed_theory.proofs.BlockLines.{ReadsTo, refused_line, unread, label_a, no_late, no_moves, none_read, read_label, read_stop, read_weight, read_late, read_moves, read_aim, moves_refused}
 use Rattle.feed_types.specs.Reading.{Refused, key_at, size_at, block_keys}
 use Rattle.feed_theory.proofs.Headers.{HeaderTo, limit, put, one_size_more, bad_size}
 use Rattle.feed_lines.specs.declared.blocks.Blocks.{Blocks}
@@ -25,12 +30,59 @@ module _ (bs : List ℕ) (held : Option Sizes) (i : ℕ) (s : Sizes) (l : Lines)
   pub size_refused : length bs ≤ 8192 → (f : FeedFault) → BadSize (key_at i) (limit i) o (left l) l.place.line f → (ts : List Train) → Refused bs (record { sizes = held; trains = ts }) f
   size_refused few f b ts = bad_size bs held i s l.place h few t ts f (subst₂ (λ (fs : List ℕ) (q : Option ℕ). BadSize (key_at i) (limit i) q (drop l.place.at fs) l.place.line f) e p b)
 
--- a line is read, or refused, at the cursor l in the feed bs
-pub took : (bs : List ℕ) (l m : Lines) (k : Key) (v : List ℕ) → l.feed.now ≡ bs → Passes l k v m → (m.feed.now ≡ bs) × LineAt bs l.place k v m.place
+-- there is a line left
+pub not_done : (l : Lines) (r : Bool) → Decides r (l.place.at ≡ length l.feed.now) → r ≡ false → l.place.at < length l.feed.now
+not_done l r d e = let ne : l.place.at ≡ length l.feed.now → ⊥ = not_from_Decides r d e in omega (arith, l.inside.within, ne)
+
+-- the first i lines of the next block of b are those of t, and l is at the line after them
+pub record Reads (b : Blocks) (i : ℕ) (t : Train) (l : Lines) : Type 0 where
+  pub same : l.feed.now ≡ b.lines.feed.now
+  pub lines : ReadsTo b.sizes b.lines.feed.now b.lines.place i t l.place
+
+took : (bs : List ℕ) (l m : Lines) (k : Key) (v : List ℕ) → l.feed.now ≡ bs → Passes l k v m → (m.feed.now ≡ bs) × LineAt bs l.place k v m.place
 took bs l m k v e p = (p.same ∙ e, subst (λ (fs : List ℕ). LineAt fs l.place k v m.place) e p.line)
 
-pub refused_at : (s : Sizes) (bs : List ℕ) (p : Place) (l : Lines) (i : ℕ) (t : Train) (A : List ℕ → Type 0) (f : FeedFault) → i < 6 → l.feed.now ≡ bs → ReadsTo s bs p i t l.place → ((v : List ℕ) → NextLine s t i v → A v) → BadLine (get_or block_keys i key.Aim) A (left l) l.place.line f → BadBlock s (drop p.at bs) p.line f
-refused_at s bs p l i t A f h e r a b = refused_line s bs p l.place i t A f h r a (subst (λ (fs : List ℕ). BadLine (get_or block_keys i key.Aim) A (drop l.place.at fs) l.place.line f) e b)
+module _ (b : Blocks) where
+  pub none_yet : Reads b 0 (unread label_a 0 1 no_late no_moves) b.lines
+  none_yet = record { same = refl; lines = none_read b.sizes b.lines.feed.now b.lines.place b.good b.lines.inside }
+
+  pub label_more : (x : Label) (m : Lines) → GoodLabel x × Passes b.lines key.Train (name x) m → Reads b 1 (unread x 0 1 no_late no_moves) m
+  label_more x m h =
+      let at = took _ b.lines m _ _ refl h.1 in
+      record { same = at.0; lines = read_label b.sizes _ b.lines.place b.good b.lines.inside x m.place h.0 at.1 }
+
+  pub stop_more : (x : Label) (n : ℕ) (l m : Lines) → Reads b 1 (unread x 0 1 no_late no_moves) l → n ≤ b.sizes.stops → Passes l key.Stop (decimal n) m → Reads b 2 (unread x n 1 no_late no_moves) m
+  stop_more x n l m r few h =
+      let at = took _ l m _ _ r.same h in
+      record { same = at.0; lines = read_stop b.sizes _ b.lines.place b.good b.lines.inside x n l.place m.place few r.lines at.1 }
+
+  pub weight_more : (x : Label) (n w : ℕ) (l m : Lines) → Reads b 2 (unread x n 1 no_late no_moves) l → (1 ≤ w) × (w ≤ 999) × Passes l key.Weight (decimal w) m → Reads b 3 (unread x n w no_late no_moves) m
+  weight_more x n w l m r h =
+      let at = took _ l m _ _ r.same h.2 in
+      record { same = at.0; lines = read_weight b.sizes _ b.lines.place b.good b.lines.inside x n w l.place m.place h.0 h.1 r.lines at.1 }
+
+  pub late_more : (x : Label) (n w : ℕ) (xs : List ℤ) (l m : Lines) → Reads b 3 (unread x n w no_late no_moves) l → Factors b.sizes.states 4 xs × Passes l key.Late (commas (take b.sizes.states xs)) m → Reads b 4 (unread x n w xs no_moves) m
+  late_more x n w xs l m r h =
+      let at = took _ l m _ _ r.same h.1 in
+      record { same = at.0; lines = read_late b.sizes _ b.lines.place b.good b.lines.inside x n w xs l.place m.place h.0 r.lines at.1 }
+
+  module _ (x : Label) (n w : ℕ) (xs ys : List ℤ) (l m : Lines) where
+    pub moves_more : Reads b 4 (unread x n w xs no_moves) l → Factors b.sizes.inputs 3 ys × Passes l key.Move (commas (take b.sizes.inputs ys)) m → (n ≡ b.sizes.stops → AllZero ys) → Reads b 5 (unread x n w xs ys) m
+    moves_more r h rest =
+        let at = took _ l m _ _ r.same h.1 in
+        record { same = at.0; lines = read_moves b.sizes _ b.lines.place b.good b.lines.inside x n w xs ys l.place m.place h.0 rest r.lines at.1 }
+
+    pub moves_bad : Reads b 4 (unread x n w xs no_moves) l → Factors b.sizes.inputs 3 ys × Passes l key.Move (commas (take b.sizes.inputs ys)) m → n ≡ b.sizes.stops → (ys ≡ no_moves → ⊥) → BadBlock b.sizes (left b.lines) b.lines.place.line (BadValue l.place.line)
+    moves_bad r h last other = moves_refused b.sizes _ b.lines.place l.place m.place _ ys b.good last r.lines h.0 (took _ l m _ _ r.same h.1).1 other
+
+    pub aim_more : (z : ℤ) → Reads b 5 (unread x n w xs ys) l → Within 999 z × Passes l key.Aim (signed_decimal z) m → (m.feed.now ≡ b.lines.feed.now) × ReadBlock b.lines.feed.now b.lines.place b.sizes (record { stop = n; label = x; weight = w; late = xs; moves = ys; aim = z }) m.place
+    aim_more z r h =
+        let at = took _ l m _ _ r.same h.1 in
+        (at.0, read_aim b.sizes _ b.lines.place b.good b.lines.inside x n w xs ys z l.place m.place h.0 r.lines at.1)
+
+  -- a line is refused after these
+  pub refused_at : (i : ℕ) (t : Train) (l : Lines) (A : List ℕ → Type 0) (f : FeedFault) → i < 6 → Reads b i t l → ((v : List ℕ) → NextLine b.sizes t i v → A v) → BadLine (get_or block_keys i key.Aim) A (left l) l.place.line f → BadBlock b.sizes (left b.lines) b.lines.place.line f
+  refused_at i t l A f h r a d = refused_line b.sizes _ b.lines.place l.place i t A f h r.lines a (subst (λ (fs : List ℕ). BadLine (get_or block_keys i key.Aim) A (drop l.place.at fs) l.place.line f) r.same d)
 
 -- the next block of b, in the feed bs of the sizes s
 pub next_in : (bs : List ℕ) (s : Sizes) (b c : Blocks) (t : Train) (n : ℕ) → b.lines.feed.now ≡ bs → b.sizes ≡ s → NextBlock b t n c → (c.lines.feed.now ≡ bs) × (c.sizes ≡ s) × ReadBlock bs b.lines.place s t c.lines.place

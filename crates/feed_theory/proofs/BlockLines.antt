@@ -119,7 +119,7 @@ zeros n room h = record {
     none zero = tt
     none (suc m) = (omega arith, none m)
 
-abbrev label_a : Label
+abbrev pub label_a : Label
 label_a = record { bytes = 65 ∷ replicate 7 0 }
 
 good_a : GoodLabel label_a

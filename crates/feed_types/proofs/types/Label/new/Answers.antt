@@ -1,15 +1,11 @@
 use Rattle.std.proofs.Common.{◌≡◌, ℕ, ◌+◌, ◌-◌, true, List, ◌++◌, length, get_or, take, set, replicate, sym, ap, ◌∙◌, subst, arith}
 use Rattle.std.specs.List.{AllByRecursion}
 use Rattle.std.proofs.lemmas.List.{take_more, length-take-le, take_all}
-use Rattle.std.proofs.ByRecursion.{All-get_or, All-more}
-use Rattle.std.proofs.lemmas.Bool.{true≢false, eqb-false}
+use Rattle.std.proofs.ByRecursion.{All-more}
+use Rattle.std.proofs.lemmas.Bool.{eqb-false}
 use Rattle.feed_types.specs.Limits.{letter, unpadded, LabelText}
 use Rattle.feed_types.proofs.Padding.{fill, unpadded_padded}
 use Rattle.feed_types.proofs.types.Label.new.Goals as goal
-
-pub returns-then-not-is_letter : goal.returns-then-not-is_letter
-returns-then-not-is_letter c h =
-    true≢false (sym (All-get_or (λ b. letter b ≡ true) c.args.text.now c.loop-i.i 0 c.loop-i-test.true h.letters) ∙ sym c.if-not-is_letter.ensures)
 
 pub loop-i-preserved : goal.loop-i-preserved
 loop-i-preserved c =

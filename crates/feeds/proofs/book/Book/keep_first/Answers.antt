@@ -1,21 +1,9 @@
 use Rattle.std.proofs.Common.{vec_items, sym, ◌∙◌, subst, arith}
 use mathlib.Core.Logic.{∥∥₁_map}
-use Rattle.std.proofs.lemmas.Bool.{eqb-true, eqb-false, lt-ltb, le-ltb}
+use Rattle.std.proofs.lemmas.Bool.{eqb-false, lt-ltb}
 use Rattle.feed_types.specs.Books.{Distinct, Keeps}
 use Rattle.feed_theory.proofs.OneMore.{distinct_take, keeps_take}
 use Rattle.feeds.proofs.book.Book.keep_first.Goals as goal
-
-pub invariant_of-self : goal.invariant_of-self
-invariant_of-self c =
-    let was = c.args.self.now in
-    let told = c.truncate.ensures in
-    record {
-      few = omega (arith, told.len, was.few);
-      room = omega (arith, told.capacity, was.room);
-      distinct = subst Distinct (sym told.items) (distinct_take c.args.count (vec_items was.trains) was.distinct);
-      sized = sym (le-ltb 0 _ (omega (arith, eqb-true _ 0 (sym c.if-is_empty.ensures))));
-      kept = ∣ tt ∣₁;
-    }
 
 pub invariant_of-self-else-is_empty : goal.invariant_of-self-else-is_empty
 invariant_of-self-else-is_empty c =
