@@ -90,18 +90,14 @@ fn from_row(row: Parts) -> Fraction
 }
 
 // A fraction holds exactly the numbers p/m in lowest terms with |p| and m up to 2,147,483,647.
-pub fn fractions_hold_exactly() -> u8
+pub fn fractions_hold_exactly()
     ensures { HoldsExactly 0 fraction_size fraction_value }
-{
-    0
-}
+{}
 
 // The largest product of a worked example is held, and the next is not.
-pub fn products_at_the_limit() -> u8
+pub fn products_at_the_limit()
     ensures { ProductsAtTheLimit }
-{
-    0
-}
+{}
 
 impl Number for Fraction {
     ghost radicand = { 0 };

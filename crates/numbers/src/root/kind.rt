@@ -133,11 +133,9 @@ fn from_row<R: Radicand>(row: Parts) -> Root<R>
 }
 
 // The roots of D hold exactly the numbers whose lowest parts are up to 262,143 in size.
-pub fn roots_hold_exactly<R: Radicand>() -> u8
+pub fn roots_hold_exactly<R: Radicand>()
     ensures { HoldsExactly {A = Root R} R.Radicand.radicand root_size (root_value R.Radicand.radicand) }
-{
-    0
-}
+{}
 
 impl<R: Radicand> Number for Root<R> {
     ghost radicand = { R.Radicand.radicand };
