@@ -1,3 +1,4 @@
 pub mod RowProducts
+pub mod Given
 pub mod RootSigns
 pub mod RowTexts

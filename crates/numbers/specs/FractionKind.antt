@@ -39,16 +39,10 @@ pub written : (k : Fraction) → Row 0 (fraction_row k) (fraction_value k)
 written k = Kind.written 0 fraction_size fraction_row formed k
 
 -- ---- reading
-row_formed : (row : Parts) → T (is_fraction_row row) → Formed 0 fraction_size row
+pub row_formed : (row : Parts) → T (is_fraction_row row) → Formed 0 fraction_size row
 row_formed row t =
     let s = and_split (unsigned_abs row.q == 0) (has_form fraction_size row) t in
     (s.1, λ e. abs_zero row.q (eqb→eq (unsigned_abs row.q) 0 s.0))
-
-pub read_fraction : (row : Parts) → T (is_fraction_row row) → row_number 0 (plain_row row.p row.m) ≡ fraction_reading row
-read_fraction row t = ap (row_number 0) (plain_of row (row_formed row t)) ∙ sym (Kind.read_formed 0 (is_fraction_row row) row t)
-
-pub read_zero : (row : Parts) → ¬ T (is_fraction_row row) → row_number 0 (plain_row (pos 0) (pos 1)) ≡ fraction_reading row
-read_zero row n = zero_row (pos 1) (record { lt = tt }) ∙ sym (Kind.read_other 0 (is_fraction_row row) row n)
 
 pub blank : (row : Parts) → ((k : Fraction) → fraction_row k ≢ row) → fraction_reading row ≡ zero_e 0
 blank row n = Kind.read_other 0 (is_fraction_row row) row (λ t. n (of row (row_formed row t)) (of_row row (row_formed row t)))

@@ -1,9 +1,9 @@
 -- What the machine's operations on signed words give where nothing is lost. Assumes nothing.
 use Rattle.std.specs.Prelude.{◌≡◌, ℕ, suc, ◌/◌, ◌^◌, ◌<◌, ◌≤◌, ℤ, pos, negsuc, neg_ℤ, FitsSigned, int_div, unsigned_abs, refl}
-use Rattle.std.proofs.Common.{sym, ◌∙◌, ap₂, subst, arith, to_z, of_z}
+use Rattle.std.proofs.Common.{sym, ◌∙◌, ap, ap₂, subst, arith, to_z, of_z}
 use Rattle.std.proofs.Math.Nat as NatL
 use Rattle.std.specs.Int.{w64}
-use Rattle.std.proofs.lemmas.Int.{ints, to_z-of_z}
+use Rattle.std.proofs.lemmas.Int.{ints, to_z-of_z, to_z_pos}
 use Rattle.algebra.specs.Rational.{part}
 
 -- a number that fits comes through a word unchanged
@@ -25,15 +25,15 @@ part_is : (x : ℤ) (g : ℕ) → int_div x (pos g) ≡ part x g
 part_is (pos n) g = refl
 part_is (negsuc n) g = refl
 
-module _ (x r : ℤ) (g : ℕ) (f : FitsSigned w64 x) (k : FitsSigned w64 r) (e : r ≡ pos g) where
-  same : int_div (to_z w64 (of_z w64 x)) (to_z w64 (of_z w64 r)) ≡ int_div x (pos g)
-  same = ap₂ int_div (to_z-of_z w64 x f) (to_z-of_z w64 r k ∙ e)
+module _ (x : ℤ) (r g : ℕ) (f : FitsSigned w64 x) (small : g < 2 ^ 63) (e : r ≡ g) where
+  same : int_div (to_z w64 (of_z w64 x)) (to_z w64 r) ≡ int_div x (pos g)
+  same = ap₂ int_div (to_z-of_z w64 x f) (ap (to_z w64) e ∙ to_z_pos w64 g small)
 
-  part_fitted : FitsSigned w64 (int_div (to_z w64 (of_z w64 x)) (to_z w64 (of_z w64 r)))
+  part_fitted : FitsSigned w64 (int_div (to_z w64 (of_z w64 x)) (to_z w64 r))
   part_fitted = subst (FitsSigned w64) (sym same) (part_fits x g f)
 
-  pub divides_well : 0 < g → (0 < of_z w64 r) × FitsSigned w64 (int_div (to_z w64 (of_z w64 x)) (to_z w64 (of_z w64 r)))
-  divides_well h = (subst (λ (z : ℤ). 0 < of_z w64 z) (sym e) h, part_fitted)
+  pub divides_well : 0 < g → (0 < r) × FitsSigned w64 (int_div (to_z w64 (of_z w64 x)) (to_z w64 r))
+  divides_well h = (subst (λ (n : ℕ). 0 < n) (sym e) h, part_fitted)
 
-  pub divides_to : to_z w64 (of_z w64 (int_div (to_z w64 (of_z w64 x)) (to_z w64 (of_z w64 r)))) ≡ part x g
-  divides_to = to_z-of_z w64 (int_div (to_z w64 (of_z w64 x)) (to_z w64 (of_z w64 r))) part_fitted ∙ same ∙ part_is x g
+  pub divides_to : to_z w64 (of_z w64 (int_div (to_z w64 (of_z w64 x)) (to_z w64 r))) ≡ part x g
+  divides_to = to_z-of_z w64 (int_div (to_z w64 (of_z w64 x)) (to_z w64 r)) part_fitted ∙ same ∙ part_is x g

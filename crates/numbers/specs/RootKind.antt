@@ -1,5 +1,5 @@
 -- Numbers with a root are a kind: their rows, and the laws of a number. Assumes nothing.
-use Rattle.std.specs.Prelude.{◌≡◌, ℕ, ◌≤◌, T, ◌≢◌, ℤ, pos, IfOk, Ok, Err, Result, unsigned_abs}
+use Rattle.std.specs.Prelude.{◌≡◌, ℕ, ◌+◌, ◌*◌, ◌≤◌, T, ◌≢◌, ℤ, pos, IfOk, Ok, Err, Result, unsigned_abs}
 use Rattle.std.proofs.Math.Path.{refl}
 use Rattle.std.proofs.Common.{sym, ◌∙◌, arith, lit≤}
 use mathlib.Core.HLevel.{is_prop→PathP}
@@ -8,6 +8,7 @@ use Rattle.algebra.specs.Exact.{zero_e, whole_e}
 use Rattle.algebra.specs.Laws.{Plain}
 use Rattle.numbers.specs.Answers.{Held}
 use Rattle.numbers.specs.Rows.{row_number, Row}
+use Rattle.numbers.specs.Steps.{Room}
 use Rattle.numbers.specs.Forms.{has_form, Formed, HoldsExactly}
 use Rattle.numbers.specs.Roots.{root_size, Under, root_reading}
 use Rattle.numbers.specs.declared.Parts.{Parts}
@@ -18,6 +19,9 @@ use Rattle.numbers.specs.RootSteps.{zero_row}
 
 pub plain : (D : ℕ) → Under D → (q : ℤ) → Plain D q
 plain D u q e = absurd (omega arith)
+
+pub room : (D : ℕ) → Under D → Room ((D + 1) * (root_size * root_size))
+room D u = let h = u.1 in omega arith
 
 module _ (X : Type 0) (D : ℕ) (u : Under D) where
   abbrev pub row_of : Root X → Parts
@@ -52,11 +56,3 @@ module _ (X : Type 0) (D : ℕ) (u : Under D) where
 
   pub wholes : (w : ℤ) → unsigned_abs w ≤ 9999 → Held (λ (k : Root X). row_number D (row_of k)) (whole_e D w)
   wholes = Kind.wholes_held D root_size row_of formed of of_row (lit≤ tt)
-
-pub read_zero : (D : ℕ) (row : Parts) → ¬ T (has_form root_size row) → row_number D (record { p = pos 0; q = pos 0; m = pos 1 }) ≡ root_reading D row
-read_zero D row n = zero_row D (pos 1) (record { lt = tt }) ∙ sym (Kind.read_other D (has_form root_size row) row n)
-
--- the form alone, for a D under which no number loses its root part
-pub made_form : (D : ℕ) (answer : Result Parts NumberFault) → IfOk answer (λ row. Formed D root_size row) → IfOk answer (λ row. T (has_form root_size row))
-made_form D (Ok row) h = h.0
-made_form D (Err e) h = tt

@@ -29,11 +29,15 @@ conjugate x y u v d = (x *ℤ u) -ℤ (d *ℤ (y *ℤ v))
 abbrev pub norm : ℤ → Parts → ℤ
 norm d b = conjugate b.p b.q b.p b.q d
 
+-- the part with the root of a times the conjugate of b
+abbrev pub across : Parts → Parts → ℤ
+across a b = (a.q *ℤ b.p) -ℤ (a.p *ℤ b.q)
+
 -- the parts of a over b, before what they have in common is taken out
 abbrev pub raw_quotient_lem : ℤ → Parts → Parts → Parts
 raw_quotient_lem d a b = record {
   p = (sign (norm d b) *ℤ b.m) *ℤ conjugate a.p a.q b.p b.q d;
-  q = (sign (norm d b) *ℤ b.m) *ℤ conjugate a.q a.p b.p b.q (pos 1);
+  q = (sign (norm d b) *ℤ b.m) *ℤ across a b;
   m = a.m *ℤ (sign (norm d b) *ℤ norm d b);
 }
 
@@ -70,15 +74,13 @@ module _ (D : ℕ) (good : Radicand D) (a b : Parts) (f : Plain D b.q) (n : ¬ (
 
       go : (m m' : ℤ) → pos 0 <ℤ m → pos 0 <ℤ m' → exact D b.p b.q (unsigned_abs m') ≢ zero_e D
           → mul_e (exact D a.p a.q (unsigned_abs m)) (inv_e (exact D b.p b.q (unsigned_abs m')))
-          ≡ exact D ((sign (norm (pos D) b) *ℤ m') *ℤ conjugate a.p a.q b.p b.q (pos D)) ((sign (norm (pos D) b) *ℤ m') *ℤ conjugate a.q a.p b.p b.q (pos 1)) (unsigned_abs (m *ℤ (sign (norm (pos D) b) *ℤ norm (pos D) b)))
+          ≡ exact D ((sign (norm (pos D) b) *ℤ m') *ℤ conjugate a.p a.q b.p b.q (pos D)) ((sign (norm (pos D) b) *ℤ m') *ℤ across a b) (unsigned_abs (m *ℤ (sign (norm (pos D) b) *ℤ norm (pos D) b)))
       go (pos m) (pos m') h k ne =
           let m0 = ltb→lt 0 m h.lt in
           let below : pos m *ℤ (s *ℤ N) ≡ pos (m * unsigned_abs N) = ap (λ z. pos m *ℤ z) (sign_abs N) in
           root_quotient D good s a.p a.q b.p b.q (m * unsigned_abs N) m m' (NatL.mul-pos m0 (abs_above N norm_ne)) m0 (ltb→lt 0 m' k.lt)
           (sym below ∙ solve₃ ℤ_ring (λ m s n. m :* (s :* n) ≋ s :* (m :* n)) tt (pos m) s N) ne
-          ∙ ap₂ (λ q m. exact D ((s *ℤ pos m') *ℤ conjugate a.p a.q b.p b.q (pos D)) q (unsigned_abs m))
-          (ap (λ z. (s *ℤ pos m') *ℤ z) (solve₄ ℤ_ring (λ p q u v. q :* u :- p :* v ≋ q :* u :- lit 1 :* (p :* v)) tt a.p a.q b.p b.q))
-          (sym below)
+          ∙ ap (λ m. exact D ((s *ℤ pos m') *ℤ conjugate a.p a.q b.p b.q (pos D)) ((s *ℤ pos m') *ℤ across a b) (unsigned_abs m)) (sym below)
       go (pos m) (negsuc m') h k ne = elim k.lt [ ]
       go (negsuc m) m' h k ne = elim h.lt [ ]
 
@@ -93,11 +95,6 @@ conjugate_size S x y u v d hx hy hu hv hd =
     omega arith
 
 -- ---- as the machine works it out
-pub conjugate_words : (r x y u v d : ℤ) → FitsSigned w64 x → FitsSigned w64 y → FitsSigned w64 u → FitsSigned w64 v → FitsSigned w64 d
-    → r ≡ conjugate (to_z w64 (of_z w64 x)) (to_z w64 (of_z w64 y)) (to_z w64 (of_z w64 u)) (to_z w64 (of_z w64 v)) (to_z w64 (of_z w64 d)) → r ≡ conjugate x y u v d
-conjugate_words r x y u v d fx fy fu fv fd e =
-    e ∙ ap₂ ◌-ℤ◌ (ap₂ ◌*ℤ◌ (word x fx) (word u fu)) (ap₂ ◌*ℤ◌ (word d fd) (ap₂ ◌*ℤ◌ (word y fy) (word v fv)))
-
 turned_words : (r x by : ℤ) → FitsSigned w64 x → FitsSigned w64 by → r ≡ sign (to_z w64 (of_z w64 by)) *ℤ to_z w64 (of_z w64 x) → r ≡ sign by *ℤ x
 turned_words r x by fx fb e = e ∙ ap₂ (λ (y z : ℤ). sign y *ℤ z) (word by fb) (word x fx)
 
@@ -105,7 +102,7 @@ turned_words r x by fx fb e = e ∙ ap₂ (λ (y z : ℤ). sign y *ℤ z) (word 
 pub turned_size : (r x by : ℤ) (S : ℕ) → FitsSigned w64 x → FitsSigned w64 by → r ≡ sign (to_z w64 (of_z w64 by)) *ℤ to_z w64 (of_z w64 x) → unsigned_abs x ≤ S → unsigned_abs r ≤ S
 turned_size r x by S fx fb e h = let k = ap unsigned_abs (turned_words r x by fx fb e) ∙ abs_turned x by in omega arith
 
-module _ (d : ℤ) (a b : Parts) (fd : FitsSigned w64 d) (v : Words a) (w : Words b) where
+module _ (d : ℤ) (a b : Parts) (v : Words a) (w : Words b) where
   -- the norm of b, b's m with its sign, the two parts of the product with b's conjugate, and the parts of the quotient
   pub record Worked (n up r₁ r₂ t p q m : ℤ) : Type 0 where
     pub n_fits : FitsSigned w64 n
@@ -116,10 +113,10 @@ module _ (d : ℤ) (a b : Parts) (fd : FitsSigned w64 d) (v : Words a) (w : Word
     pub p_fits : FitsSigned w64 p
     pub q_fits : FitsSigned w64 q
     pub m_fits : FitsSigned w64 m
-    pub n_is : n ≡ conjugate (to_z w64 (of_z w64 b.p)) (to_z w64 (of_z w64 b.q)) (to_z w64 (of_z w64 b.p)) (to_z w64 (of_z w64 b.q)) (to_z w64 (of_z w64 d))
+    pub n_is : n ≡ norm d b
     pub up_is : up ≡ sign (to_z w64 (of_z w64 n)) *ℤ to_z w64 (of_z w64 b.m)
-    pub r₁_is : r₁ ≡ conjugate (to_z w64 (of_z w64 a.p)) (to_z w64 (of_z w64 a.q)) (to_z w64 (of_z w64 b.p)) (to_z w64 (of_z w64 b.q)) (to_z w64 (of_z w64 d))
-    pub r₂_is : r₂ ≡ conjugate (to_z w64 (of_z w64 a.q)) (to_z w64 (of_z w64 a.p)) (to_z w64 (of_z w64 b.p)) (to_z w64 (of_z w64 b.q)) (pos 1)
+    pub r₁_is : r₁ ≡ conjugate a.p a.q b.p b.q d
+    pub r₂_is : r₂ ≡ across a b
     pub t_is : t ≡ sign (to_z w64 (of_z w64 n)) *ℤ to_z w64 (of_z w64 n)
     pub p_is : p ≡ to_z w64 (of_z w64 up) *ℤ to_z w64 (of_z w64 r₁)
     pub q_is : q ≡ to_z w64 (of_z w64 up) *ℤ to_z w64 (of_z w64 r₂)
@@ -127,36 +124,20 @@ module _ (d : ℤ) (a b : Parts) (fd : FitsSigned w64 d) (v : Words a) (w : Word
 
   pub quotient_parts : (n up r₁ r₂ t p q m : ℤ) → Worked n up r₁ r₂ t p q m → passed p q m ≡ raw_quotient_lem d a b
   quotient_parts n up r₁ r₂ t p q m k =
-      let n' : n ≡ norm d b = conjugate_words n b.p b.q b.p b.q d w.p_fits w.q_fits w.p_fits w.q_fits fd k.n_is in
-      let up' : up ≡ sign (norm d b) *ℤ b.m = turned_words up b.m n w.m_fits k.n_fits k.up_is ∙ ap (λ z. sign z *ℤ b.m) n' in
-      let r₁' : r₁ ≡ conjugate a.p a.q b.p b.q d = conjugate_words r₁ a.p a.q b.p b.q d v.p_fits v.q_fits w.p_fits w.q_fits fd k.r₁_is in
-      let one : FitsSigned w64 (pos 1) = omega (arith, ints) in
-      let r₂' : r₂ ≡ conjugate a.q a.p b.p b.q (pos 1) = conjugate_words r₂ a.q a.p b.p b.q (pos 1) v.q_fits v.p_fits w.p_fits w.q_fits one k.r₂_is in
-      let t' : t ≡ sign (norm d b) *ℤ norm d b = turned_words t n n k.n_fits k.n_fits k.t_is ∙ ap (λ z. sign z *ℤ z) n' in
+      let up' : up ≡ sign (norm d b) *ℤ b.m = turned_words up b.m n w.m_fits k.n_fits k.up_is ∙ ap (λ z. sign z *ℤ b.m) k.n_is in
+      let t' : t ≡ sign (norm d b) *ℤ norm d b = turned_words t n n k.n_fits k.n_fits k.t_is ∙ ap (λ z. sign z *ℤ z) k.n_is in
       passed_is p q m _ _ _ k.p_fits k.q_fits k.m_fits
-      (product_words p up r₁ k.up_fits k.r₁_fits k.p_is ∙ ap₂ ◌*ℤ◌ up' r₁')
-      (product_words q up r₂ k.up_fits k.r₂_fits k.q_is ∙ ap₂ ◌*ℤ◌ up' r₂')
+      (product_words p up r₁ k.up_fits k.r₁_fits k.p_is ∙ ap₂ ◌*ℤ◌ up' k.r₁_is)
+      (product_words q up r₂ k.up_fits k.r₂_fits k.q_is ∙ ap₂ ◌*ℤ◌ up' k.r₂_is)
       (product_words m a.m t v.m_fits k.t_fits k.m_is ∙ ap (λ z. a.m *ℤ z) t')
 
--- ---- rows of roots in words
-bounded : (S : ℕ) (x : ℤ) → FitsSigned w64 x → unsigned_abs x ≤ S → Bounded S (to_z w64 (of_z w64 x))
-bounded S x f h = subst (λ (z : ℤ). unsigned_abs z ≤ S) (sym (word x f)) h
-
-pub radicand_bounded : (D : ℕ) (d : ℤ) → Under D → FitsSigned w64 d → d ≡ pos D → Bounded 99 (to_z w64 (of_z w64 d))
-radicand_bounded D d u f e = bounded 99 d f (subst (λ (z : ℤ). unsigned_abs z ≤ 99) (sym e) u.1)
-
+-- ---- rows of roots
 module _ (row : Parts) (f : T (has_form root_size row)) where
   pub root_sizes : Within root_size row
   root_sizes = form_sizes root_size row f
 
   pub root_words : Words row
   root_words = words root_size row (lit< tt) root_sizes
-
-  pub p_bounded : Bounded root_size (to_z w64 (of_z w64 row.p))
-  p_bounded = bounded root_size row.p root_words.p_fits root_sizes.p_size
-
-  pub q_bounded : Bounded root_size (to_z w64 (of_z w64 row.q))
-  q_bounded = bounded root_size row.q root_words.q_fits root_sizes.q_size
 
   pub root_above : pos 0 <ℤ row.m
   root_above = form_above root_size row f

@@ -10,27 +10,19 @@ use Rattle.algebra.proofs.Booleans.{and_join}
 use Rattle.algebra.proofs.Gcd.{gcd_right}
 use Rattle.numbers.specs.Answers.{Held, Answers, Quotient}
 use Rattle.numbers.specs.Rows.{row_number, Row}
-use Rattle.numbers.specs.Forms.{has_form, within, lowest, Formed, RowAnswers, RowQuotient, Carried, read_as, HoldsExactly}
+use Rattle.numbers.specs.Forms.{has_form, within, lowest, Formed, read_as, HoldsExactly}
 use Rattle.numbers.specs.declared.Parts.{Parts}
 use Rattle.numbers.specs.declared.NumberFault.{NumberFault}
 use Rattle.numbers.specs.declared.NumberFault.TheVariants.{TooLarge, ZeroDivisor}
 use Rattle.numbers.specs.Lowering.{form_lowest, form_above, row_unique}
 use Rattle.numbers.specs.RowSums.{form_sizes}
 
--- ---- answers in rows
-pub made_formed : (D size : ℕ) (x : Exact D) (answer : Result Parts NumberFault) → RowAnswers D size x answer → IfOk answer (λ row. Formed D size row)
-made_formed D size x (Ok row) h = h.0
-made_formed D size x (Err e) h = tt
-
-pub made_quotient : (D size : ℕ) (x y : Exact D) (answer : Result Parts NumberFault) → RowQuotient D size x y answer → IfOk answer (λ row. Formed D size row)
-made_quotient D size x y (Ok row) h = h.1.0
-made_quotient D size x y (Err e) h = tt
-
+-- ---- answers
 -- a quotient with a divisor other than 0
-pub quotient_answer : (D size : ℕ) (x y z : Exact D) (answer : Result Parts NumberFault) → y ≢ zero_e D → mul_e x (inv_e y) ≡ z → RowAnswers D size z answer → RowQuotient D size x y answer
-quotient_answer D size x y z (Ok row) n e h = (n, (h.0, h.1 ∙ sym e))
-quotient_answer D size x y z (Err TooLarge) n e h = (n, λ row f g. h row f (g ∙ e))
-quotient_answer D size x y z (Err ZeroDivisor) n e h = absurd h
+pub quotient_answer : {A : Type 0} {D : ℕ} (value : A → Exact D) (x y z : Exact D) (r : Result A NumberFault) → y ≢ zero_e D → mul_e x (inv_e y) ≡ z → Answers value z r → Quotient value x y r
+quotient_answer value x y z (Ok k) n e h = (n, h ∙ sym e)
+quotient_answer value x y z (Err TooLarge) n e h = (n, subst (λ w. ¬ Held value w) (sym e) h)
+quotient_answer value x y z (Err ZeroDivisor) n e h = absurd h
 
 -- ---- reading
 pub read_formed : (D : ℕ) (b : Bool) (row : Parts) → T b → read_as D b row ≡ row_number D row
@@ -41,21 +33,12 @@ pub read_other : (D : ℕ) (b : Bool) (row : Parts) → ¬ T b → read_as D b r
 read_other D true row n = absurd (n tt)
 read_other D false row n = refl
 
+-- a value that is the row's number where b holds, and else 0, is what the row is read as
+pub read_is : (D : ℕ) (b : Bool) (F : Type 0) (row : Parts) (x : Exact D) → (T b → F) → (F → T b) → (F → x ≡ row_number D row) → (¬ F → x ≡ zero_e D) → x ≡ read_as D b row
+read_is D true F row x to from h n = h (to tt)
+read_is D false F row x to from h n = n from
+
 module _ {A : Type 0} (D size : ℕ) (row : A → Parts) (formed : (k : A) → Formed D size (row k)) where
-  pub answers : (x : Exact D) (answer : Result Parts NumberFault) (r : Result A NumberFault) → Carried row answer r → RowAnswers D size x answer → Answers (λ k. row_number D (row k)) x r
-  answers x (Ok a) (Ok k) c h = ap (row_number D) c ∙ h.1
-  answers x (Ok a) (Err e) c h = absurd c
-  answers x (Err e) (Ok k) c h = absurd c
-  answers x (Err TooLarge) (Err e) c h = subst (λ f. Answers (λ k. row_number D (row k)) x (Err f)) c (λ k. h (row k.0) (formed k.0) k.1)
-  answers x (Err ZeroDivisor) (Err e) c h = absurd h
-
-  pub quotients : (x y : Exact D) (answer : Result Parts NumberFault) (r : Result A NumberFault) → Carried row answer r → RowQuotient D size x y answer → Quotient (λ k. row_number D (row k)) x y r
-  quotients x y (Ok a) (Ok k) c h = (h.0, ap (row_number D) c ∙ h.1.1)
-  quotients x y (Ok a) (Err e) c h = absurd c
-  quotients x y (Err e) (Ok k) c h = absurd c
-  quotients x y (Err TooLarge) (Err e) c h = subst (λ f. Quotient (λ k. row_number D (row k)) x y (Err f)) c (h.0, λ k. h.1 (row k.0) (formed k.0) k.1)
-  quotients x y (Err ZeroDivisor) (Err e) c h = subst (λ f. Quotient (λ k. row_number D (row k)) x y (Err f)) c h
-
   pub same_rows : (a b : A) → row_number D (row a) ≡ row_number D (row b) → row a ≡ row b
   same_rows a b e =
       row_unique D (row a) (row b) (form_above size (row a) (formed a).0) (form_above size (row b) (formed b).0)

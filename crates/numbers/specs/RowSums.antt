@@ -12,7 +12,8 @@ use Rattle.algebra.proofs.Triples.{exact_add, exact_neg}
 use Rattle.numbers.specs.Rows.{row_number}
 use Rattle.numbers.specs.Steps.{Room}
 use Rattle.numbers.specs.declared.NumberFault.{NumberFault}
-use Rattle.numbers.specs.Forms.{has_form, Within, RowAnswers}
+use Rattle.numbers.specs.Answers.{Answers}
+use Rattle.numbers.specs.Forms.{has_form, Within}
 use Rattle.numbers.specs.declared.Parts.{Parts}
 use Rattle.std.specs.Int.{w64}
 use Rattle.numbers.specs.Machine.{fits, word}
@@ -75,35 +76,20 @@ pub plain_sum : (D : ℕ) (x y u v : ℤ) → Plain D x → Plain D y → Plain 
 plain_sum D x y u v f g e = ap₂ (λ s t. (s *ℤ u) +ℤ (t *ℤ v)) (f e) (g e) ∙ solve₂ ℤ_ring (λ u v. lit 0 :* u :+ lit 0 :* v ≋ lit 0) tt u v
 
 -- the parts of the sum as the machine works them out
-module _ (size : ℕ) (room : Room (size * size)) (a b : Parts) (fa : T (has_form size a)) (fb : T (has_form size b)) where
-  pub a_sizes : Within size a
-  a_sizes = form_sizes size a fa
+pub sum_parts : (a b : Parts) (v : Words a) (w : Words b) (p q m : ℤ) → FitsSigned w64 p → FitsSigned w64 q → FitsSigned w64 m
+    → p ≡ (to_z w64 (of_z w64 a.p) *ℤ to_z w64 (of_z w64 b.m)) +ℤ (to_z w64 (of_z w64 b.p) *ℤ to_z w64 (of_z w64 a.m))
+    → q ≡ (to_z w64 (of_z w64 a.q) *ℤ to_z w64 (of_z w64 b.m)) +ℤ (to_z w64 (of_z w64 b.q) *ℤ to_z w64 (of_z w64 a.m))
+    → m ≡ to_z w64 (of_z w64 a.m) *ℤ to_z w64 (of_z w64 b.m)
+    → passed p q m ≡ raw_sum a b
+sum_parts a b v w p q m fp fq fm ep eq em =
+    passed_is p q m _ _ _ fp fq fm
+    (two_words p a.p b.m b.p a.m v.p_fits w.m_fits w.p_fits v.m_fits ep)
+    (two_words q a.q b.m b.q a.m v.q_fits w.m_fits w.q_fits v.m_fits eq)
+    (product_words m a.m b.m v.m_fits w.m_fits em)
 
-  pub b_sizes : Within size b
-  b_sizes = form_sizes size b fb
-
-  pub a_words : Words a
-  a_words = words size a (square_room size room) a_sizes
-
-  pub b_words : Words b
-  b_words = words size b (square_room size room) b_sizes
-
-  pub sum_parts : (p q m : ℤ) → FitsSigned w64 p → FitsSigned w64 q → FitsSigned w64 m
-      → p ≡ (to_z w64 (of_z w64 a.p) *ℤ to_z w64 (of_z w64 b.m)) +ℤ (to_z w64 (of_z w64 b.p) *ℤ to_z w64 (of_z w64 a.m))
-      → q ≡ (to_z w64 (of_z w64 a.q) *ℤ to_z w64 (of_z w64 b.m)) +ℤ (to_z w64 (of_z w64 b.q) *ℤ to_z w64 (of_z w64 a.m))
-      → m ≡ to_z w64 (of_z w64 a.m) *ℤ to_z w64 (of_z w64 b.m)
-      → passed p q m ≡ raw_sum a b
-  sum_parts p q m fp fq fm ep eq em =
-      passed_is p q m _ _ _ fp fq fm
-      (two_words p a.p b.m b.p a.m a_words.p_fits b_words.m_fits b_words.p_fits a_words.m_fits ep)
-      (two_words q a.q b.m b.q a.m a_words.q_fits b_words.m_fits b_words.q_fits a_words.m_fits eq)
-      (product_words m a.m b.m a_words.m_fits b_words.m_fits em)
-
--- what `fitted` answers for parts that stand for x is the answer for x
-pub answer_for : (D size : ℕ) (raw made : Parts) (x : Exact D) (r : Result Parts NumberFault) → raw ≡ made → row_number D made ≡ x → Plain D made.q
-    → ((E : ℕ) → Plain E raw.q → RowAnswers E size (row_number E raw) r) → RowAnswers D size x r
-answer_for D size raw made x r e v f h =
-    subst (λ y. RowAnswers D size y r) (ap (row_number D) e ∙ v) (h D (λ d. ap (λ (z : Parts). z.q) e ∙ f d))
+-- an answer for parts that stand for x is one for x
+pub answer_for : {A : Type 0} (D : ℕ) (value : A → Exact D) (raw made : Parts) (x : Exact D) (r : Result A NumberFault) → raw ≡ made → row_number D made ≡ x → Answers value (row_number D raw) r → Answers value x r
+answer_for D value raw made x r e v h = subst (λ y. Answers value y r) (ap (row_number D) e ∙ v) h
 
 -- ---- the opposite
 abbrev pub raw_opposite : Parts → Parts

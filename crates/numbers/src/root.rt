@@ -20,6 +20,7 @@ pub struct Root<R> {
     ghost form: { T (has_form 262143 row) },
 }
 
+// By hand: a derive asks the same of R, and `derive_where` gives no Clone beside a ghost field.
 impl<R> Clone for Root<R> {
     ghost is_clone = { λ x y. y ≡ x };
 

@@ -38,6 +38,6 @@ impl<R: Radicand> fmt::Display for Root<R> {
     ghost output = { λ k. Some (number_text (pos R.Radicand.radicand) (root_row k)) };
 
     fn fmt<W: fmt::Write>(&self, f: &mut fmt::Formatter<W>) -> fmt::Result {
-        write_row(self.row(), R::value(), f)
+        write_row(self.row(), R::D, f)
     }
 }

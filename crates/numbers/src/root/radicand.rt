@@ -1,5 +1,5 @@
 // What stands under the root.
-ghost use Rattle.std.specs.Prelude.{◌≡◌, ℕ, pos};
+ghost use Rattle.std.specs.Prelude.{◌≡◌, ℕ, ℤ, pos, refl};
 ghost use Rattle.algebra.proofs.Radicands.{five, three};
 ghost use Rattle.algebra.specs.Exact.{NoSquare};
 ghost use Rattle.numbers.specs.Roots.{Under};
@@ -9,12 +9,13 @@ ghost use Rattle.std.proofs.Common.{lit≤};
 pub trait Radicand {
     const D: i64;
 
+    ghost D: { ℤ };
+
     ghost radicand: { ℕ };
 
-    ghost good: { NoSquare radicand };
+    ghost is: { D ≡ pos radicand };
 
-    fn value() -> i64
-        ensures { result ≡ pos radicand };
+    ghost good: { NoSquare radicand };
 
     ghost small: { Under radicand };
 }
@@ -24,15 +25,15 @@ pub struct Three;
 impl Radicand for Three {
     const D: i64 = 3;
 
+    ghost D = { pos 3 };
+
     ghost radicand = { 3 };
+
+    ghost is = { refl };
 
     ghost good = { three };
 
     ghost small = { (lit≤ tt, lit≤ tt) };
-
-    fn value() -> i64 {
-        Self::D
-    }
 }
 
 pub struct Five;
@@ -40,13 +41,13 @@ pub struct Five;
 impl Radicand for Five {
     const D: i64 = 5;
 
+    ghost D = { pos 5 };
+
     ghost radicand = { 5 };
+
+    ghost is = { refl };
 
     ghost good = { five };
 
     ghost small = { (lit≤ tt, lit≤ tt) };
-
-    fn value() -> i64 {
-        Self::D
-    }
 }

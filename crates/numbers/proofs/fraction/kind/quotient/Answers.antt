@@ -10,7 +10,7 @@ use Rattle.numbers.specs.Lowering.{form_above}
 use Rattle.numbers.specs.Machine.{word}
 use Rattle.numbers.specs.Bounds.{small_words, product_words}
 use Rattle.numbers.specs.RowSums.{form_sizes, words, Words, answer_for}
-use Rattle.numbers.specs.RowKinds as Kind
+use Rattle.numbers.specs.RowKinds.{quotient_answer}
 use Rattle.numbers.specs.Signs.{abs_turned}
 use Rattle.numbers.specs.FractionSteps.{zero_row, nonzero_row, quotient_row, below_above}
 use Rattle.numbers.proofs.fraction.kind.quotient.Goals as goal
@@ -70,8 +70,8 @@ module _ (a b : Fraction) (t u p m : ℤ) (ft : SFits w64 t) (fu : SFits w64 u) 
 nonzero : (b : Fraction) → SFits w64 b.p → ¬ (of_z w64 b.p ≡ 0) → b.p ≢ pos 0
 nonzero b f n e = n (ap (of_z w64) e)
 
-pub fitted-requires : goal.fitted-requires
-fitted-requires c =
+pub fitted-requires-clause-above : goal.fitted-requires-clause-above
+fitted-requires-clause-above c =
     let a = c.args.a in let b = c.args.b in
     let ft : SFits w64 c.turned.result = search rules in
     let fu : SFits w64 c.turned-2.result = search rules in
@@ -89,5 +89,5 @@ returns c =
     let fm : SFits w64 c.times-m.result = search rules in
     let e = parts a b c.turned.result c.turned-2.result c.times-p.result c.times-m.result ft fu fp fm c.turned.ensures c.turned-2.ensures c.times-p.ensures c.times-m.ensures in
     let n = nonzero b (fits b).p_fits c.if-b-eq0.false in
-    Kind.quotient_answer 0 fraction_size (fraction_value a) (fraction_value b) _ c.fitted.result (nonzero_row b.p b.m (above b) n) (quotient_row a.p a.m b.p b.m (above a) (above b) n)
-    (answer_for 0 fraction_size _ _ _ c.fitted.result e refl (λ _. refl) c.fitted.ensures)
+    quotient_answer fraction_value (fraction_value a) (fraction_value b) _ c.fitted.result (nonzero_row b.p b.m (above b) n) (quotient_row a.p a.m b.p b.m (above a) (above b) n)
+    (answer_for 0 fraction_value _ _ _ c.fitted.result e refl c.fitted.ensures)
