@@ -1,10 +1,9 @@
 -- Digits and the numbers that they write. Assumes nothing.
-use Rattle.std.proofs.Common.{◌≡◌, ℕ, ◌+◌, ◌-◌, ◌*◌, ◌^◌, ◌<◌, ◌≤◌, ◌≢◌, List, [], ◌∷◌, length, get_or, take, drop, ℤ, pos, neg_ℤ, Some, None, Option, sym, ap, ◌∙◌, subst, inl, inr, arith, MatchOption}
-use Rattle.std.specs.Str.Parse.{AllDigits, digits_value}
+use Rattle.std.proofs.Common.{◌≡◌, ℕ, ◌^◌, ◌<◌, ◌≤◌, ◌≢◌, List, [], ◌∷◌, length, get_or, ℤ, pos, neg_ℤ, Ok, Err, Result, Some, None, Option, sym, refl, ap, ◌∙◌, subst, inl, inr, arith, w64, MatchOption}
+use Rattle.std.specs.Str.Parse.{AllDigits, digits_value, ParsesSigned}
+use Rattle.std.specs.Result.{OkIff, result_ok}
 use Rattle.std.specs.Int.{IsInRange}
-use Rattle.std.specs.Char.{digit_value as value_of_digit}
-use Rattle.std.proofs.lemmas.Str.Parse.{IsNumeralModel, numerals_by_value, tells_digits, digits_value_short, digit_from_value, digit_at}
-use Rattle.std.proofs.lemmas.Int.Digits.{digits_value_more, digits_more}
+use Rattle.std.proofs.lemmas.Str.Parse.{IsNumeralModel, numerals_by_value, tells_digits, digits_value_short, digit_from_value, digit_at, parse_signed_plain}
 use Rattle.number_text.specs.Spelling.{Natural, Positive, Minus, Whole, Step, Lacks}
 
 own : IsNumeralModel (AllDigits 10) (digits_value 10)
@@ -12,16 +11,6 @@ own = numerals_by_value (AllDigits 10) tells_digits
 
 pub value_bound : (ds : List ℕ) (k : ℕ) → AllDigits 10 ds → length ds ≤ k → digits_value 10 ds < 10 ^ k
 value_bound ds k d h = digits_value_short own ds k d h
-
-pub digit_value : (c : ℕ) → 48 ≤ c → c ≤ 57 → value_of_digit c ≡ c - 48
-digit_value c l h = grind arith
-
--- one digit more
-pub value_step : (bs : List ℕ) (i : ℕ) → i < length bs → 48 ≤ get_or bs i 0 → get_or bs i 0 ≤ 57 → digits_value 10 (take (i + 1) bs) ≡ digits_value 10 (take i bs) * 10 + (get_or bs i 0 - 48)
-value_step bs i l low high = digits_value_more 10 bs i l ∙ ap (λ n. digits_value 10 (take i bs) * 10 + n) (digit_value (get_or bs i 0) low high)
-
-pub digits_step : (bs : List ℕ) (i : ℕ) → i < length bs → 48 ≤ get_or bs i 0 → get_or bs i 0 ≤ 57 → AllDigits 10 (take i bs) → AllDigits 10 (take (i + 1) bs)
-digits_step bs i l low high d = digits_more 10 bs i l d (let e = digit_value (get_or bs i 0) low high in omega arith)
 
 -- what is no digit does not stand among digits
 pub digits_lack : (c : ℕ) (ds : List ℕ) → (IsInRange 48 57 c → ⊥) → AllDigits 10 ds → Lacks c ds
@@ -55,7 +44,7 @@ natural_no_sign c bs ds n k h e = k (subst (IsInRange 48 57) (ap (λ l. get_or l
 no_minus : IsInRange 48 57 45 → ⊥
 no_minus h = omega arith
 
-positive_unique : (bs : List ℕ) (z z' : ℤ) → Positive bs z → Positive bs z' → z ≡ z'
+pub positive_unique : (bs : List ℕ) (z z' : ℤ) → Positive bs z → Positive bs z' → z ≡ z'
 positive_unique bs z z' (n, h, v) (n', h', v') = v ∙ ap pos (natural_unique bs n n' h h') ∙ sym v'
 
 pub tail_same : (c : ℕ) (bs ds ds' : List ℕ) → bs ≡ c ∷ ds → bs ≡ c ∷ ds' → ds ≡ ds'
@@ -83,6 +72,14 @@ step_unique bs z z' (inr h) (inr k) = minus_unique bs z z' h k
 pub natural_bound : (bs : List ℕ) (n : ℕ) → Natural bs n → n < 10 ^ 18
 natural_bound bs n h = subst (λ k. k < 10 ^ 18) (sym h.is) (value_bound bs 18 h.digits h.few)
 
+-- what `parse` gives, for at most 18 digits
+pub read_digits : {E : Type 0} (bs : List ℕ) (r : Result ℤ E) → length bs ≤ 18 → ParsesSigned w64 10 bs r → get_or bs 0 0 ≢ 43 → get_or bs 0 0 ≢ 45 → MatchOption (result_ok r) ((z : ℤ) → ¬ Positive bs z) (Positive bs)
+read_digits bs r l h p m = go r (parse_signed_plain own w64 bs r h p m)
+  where
+    go : {E : Type 0} (r : Result ℤ E) → OkIff r (AllDigits 10 bs × (0 < length bs) × (digits_value 10 bs < 2 ^ 63)) (pos (digits_value 10 bs)) → MatchOption (result_ok r) ((z : ℤ) → ¬ Positive bs z) (Positive bs)
+    go (Ok z) (h, e) = (digits_value 10 bs, record { digits = h.0; some = h.1; few = l; is = refl }, e)
+    go (Err e) h = λ z (n, k, _). h (k.digits, k.some, (let b = value_bound bs 18 k.digits l in omega arith))
+
 -- an answer for P is one for Q where the two are the same
 pub carry : {P Q : ℤ → Type 0} (r : Option ℤ) → ((z : ℤ) → P z → Q z) → ((z : ℤ) → Q z → P z) → MatchOption r ((z : ℤ) → ¬ P z) P → MatchOption r ((z : ℤ) → ¬ Q z) Q
 carry None f g h = λ z q. h z (g z q)
@@ -90,21 +87,21 @@ carry (Some z) f g h = f z h
 
 -- ---- by the first byte
 module _ (bs : List ℕ) (z : ℤ) where
-  pub whole_minus : bs ≡ 45 ∷ drop 1 bs → Whole bs z → Minus bs z
-  whole_minus e (inl h) = absurd (natural_no_sign 45 bs (drop 1 bs) h.0 no_minus h.1 e)
+  pub whole_minus : get_or bs 0 0 ≡ 45 → Whole bs z → Minus bs z
+  whole_minus e (inl h) = absurd (no_minus (subst (IsInRange 48 57) e (first_is_digit bs h.0 h.1)))
   whole_minus e (inr h) = h
 
-  pub whole_positive : ((ds : List ℕ) → bs ≢ (45 ∷ ds)) → Whole bs z → Positive bs z
+  pub whole_positive : get_or bs 0 0 ≢ 45 → Whole bs z → Positive bs z
   whole_positive n (inl h) = h
-  whole_positive n (inr h) = absurd (n h.0 h.1)
+  whole_positive n (inr h) = absurd (n (ap (λ l. get_or l 0 0) h.1))
 
-  pub step_positive : bs ≡ 43 ∷ drop 1 bs → Step bs z → Positive (drop 1 bs) z
-  step_positive e (inl (ds, e', h)) = subst (λ l. Positive l z) (tail_same 43 bs ds (drop 1 bs) e' e) h
-  step_positive e (inr h) = absurd (other_sign bs (drop 1 bs) h.0 e h.1)
+  pub step_positive : (ds : List ℕ) → bs ≡ 43 ∷ ds → Step bs z → Positive ds z
+  step_positive ds e (inl (ds', e', h)) = subst (λ l. Positive l z) (tail_same 43 bs ds' ds e' e) h
+  step_positive ds e (inr h) = absurd (other_sign bs ds h.0 e h.1)
 
   pub step_minus : ((ds : List ℕ) → bs ≢ (43 ∷ ds)) → Step bs z → Minus bs z
   step_minus n (inl h) = absurd (n h.0 h.1)
   step_minus n (inr h) = h
 
-  pub minus_natural : bs ≡ 45 ∷ drop 1 bs → Minus bs z → (n : ℕ) × Natural (drop 1 bs) n × (z ≡ neg_ℤ (pos n))
-  minus_natural e (ds, e', h) = subst (λ l. (n : ℕ) × Natural l n × (z ≡ neg_ℤ (pos n))) (tail_same 45 bs ds (drop 1 bs) e' e) h
+pub minus_digits : (bs ds : List ℕ) (z : ℤ) → bs ≡ 45 ∷ ds → Minus bs z → (y : ℤ) × Positive ds y
+minus_digits bs ds z e (ds', e', (n, h, _)) = (pos n, (n, subst (λ l. Natural l n) (tail_same 45 bs ds' ds e' e) h, refl))

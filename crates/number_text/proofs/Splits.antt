@@ -1,34 +1,28 @@
 -- Lists cut at a byte that stands nowhere before the cut. Assumes nothing.
-use Rattle.std.proofs.Common.{◌≡◌, ℕ, zero, suc, ◌+◌, ◌<◌, ◌≤◌, List, [], ◌∷◌, ◌++◌, length, get_or, take, drop, sym, refl, ap, ◌∙◌, subst, ap₂, inl, inr, add-one, arith, take-append-drop, drop-cons}
-use Rattle.number_text.specs.Spelling.{Lacks, Either, Cut}
+use Rattle.std.proofs.Common.{◌≡◌, ℕ, zero, suc, ◌+◌, ◌<◌, ◌≤◌, ◌≢◌, ◌⊎◌, Bool, true, List, [], ◌∷◌, ◌++◌, length, get_or, take, drop, Some, None, Option, Bor, MatchOption, sym, refl, ap, ◌∙◌, subst, ap₂, inl, inr, arith}
+use Rattle.std.proofs.Math.Seq.{drop-append_seam}
+use Rattle.std.specs.Str.{NoCharPasses}
+use Rattle.std.specs.Str.Pattern.{FindsText}
+use Rattle.std.proofs.lemmas.Bool.{false≢true}
+use Rattle.std.proofs.lemmas.Str.{NoCharPasses-byte}
+use Rattle.std.proofs.lemmas.Str.Pattern.{split_text_parts}
+use Rattle.number_text.specs.Spelling.{Lacks, Either}
 
-pub lacks_take : (c : ℕ) (bs : List ℕ) (i : ℕ) → i ≤ length bs → ((k : ℕ) → k < i → get_or bs k 0 ≡ c → ⊥) → Lacks c (take i bs)
-lacks_take c bs zero l h = tt
-lacks_take c [] (suc i) l h = tt
-lacks_take c (x ∷ xs) (suc i) l h = (λ e. h 0 (omega arith) e, lacks_take c xs i (omega arith) (λ k p e. h (suc k) (omega arith) e))
+-- a byte other than 0 that a list lacks is read at no place of it
+pub lacks_from : (c : ℕ) (l : List ℕ) → ((i : ℕ) → i < length l → get_or l i 0 ≢ c) → Lacks c l
+lacks_from c [] h = tt
+lacks_from c (x ∷ l) h = (h 0 (omega arith), lacks_from c l (λ i p. h (suc i) (omega arith)))
 
-pub take_whole : (bs : List ℕ) (i : ℕ) → i ≡ length bs → take i bs ≡ bs
-take_whole [] zero e = refl
-take_whole [] (suc i) e = refl
-take_whole (x ∷ xs) zero e = absurd (let h : 0 ≡ suc (length xs) = e in omega arith)
-take_whole (x ∷ xs) (suc i) e = ap (λ ys. x ∷ ys) (take_whole xs i (let h : suc i ≡ suc (length xs) = e in omega arith))
+pub lacks_at : (c : ℕ) (l : List ℕ) → Lacks c l → (i : ℕ) → i < length l → get_or l i 0 ≢ c
+lacks_at c [] h i p = absurd (omega arith)
+lacks_at c (x ∷ l) h zero p = h.0
+lacks_at c (x ∷ l) h (suc i) p = lacks_at c l h.1 i (omega arith)
 
-pub cut_none : (a b : ℕ) (bs : List ℕ) (i : ℕ) → i ≡ length bs → ((k : ℕ) → k < i → (get_or bs k 0 ≡ a → ⊥) × (get_or bs k 0 ≡ b → ⊥)) → Cut a b bs i
-cut_none a b bs i e h =
-    inl (e, subst (Lacks a) (take_whole bs i e) (lacks_take a bs i (omega arith) (λ k l. (h k l).0)), subst (Lacks b) (take_whole bs i e) (lacks_take b bs i (omega arith) (λ k l. (h k l).1)))
+-- of characters that pass a test, no ASCII one stands in a text with none that passes
+pub no_char_lacks : (k : ℕ → Bool) (c : ℕ) (bs : List ℕ) → NoCharPasses k bs → c < 128 → k c ≡ true → Lacks c bs
+no_char_lacks k c bs h low t = lacks_from c bs (λ i p e. let below : get_or bs i 0 < 128 = omega arith in false≢true (sym (NoCharPasses-byte k bs i h p below) ∙ ap k e ∙ t))
 
-pub cut_here : (a b : ℕ) (bs : List ℕ) (i : ℕ) → i < length bs → Either a b (get_or bs i 0) → ((k : ℕ) → k < i → (get_or bs k 0 ≡ a → ⊥) × (get_or bs k 0 ≡ b → ⊥)) → Cut a b bs i
-cut_here a b bs i l e h =
-    inr (
-      get_or bs i 0,
-      e,
-      l,
-      sym (take-append-drop i bs) ∙ ap (λ ys. take i bs ++ ys) (drop-cons bs i 0 l ∙ ap (λ j. get_or bs i 0 ∷ drop j bs) (sym (add-one i))),
-      lacks_take a bs i (omega arith) (λ k p. (h k p).0),
-      lacks_take b bs i (omega arith) (λ k p. (h k p).1),
-    )
-
-either_lacks : (a b c : ℕ) (l : List ℕ) → Either a b c → Lacks a l → Lacks b l → Lacks c l
+pub either_lacks : (a b c : ℕ) (l : List ℕ) → Either a b c → Lacks a l → Lacks b l → Lacks c l
 either_lacks a b c l (inl e) h k = subst (λ x. Lacks x l) (sym e) h
 either_lacks a b c l (inr e) h k = subst (λ x. Lacks x l) (sym e) k
 
@@ -52,14 +46,41 @@ pub lacks_append : (c : ℕ) (l r : List ℕ) → Lacks c l → Lacks c r → La
 lacks_append c [] r h k = k
 lacks_append c (x ∷ l) r h k = (h.0, lacks_append c l r h.1 k)
 
--- whoever cuts the list before its first a or b cuts it where `Cut` does
-pub cut_meets : (a b : ℕ) (bs : List ℕ) (i : ℕ) → Cut a b bs i → (c : ℕ) (l r : List ℕ) → Either a b c → Lacks a l → Lacks b l → bs ≡ l ++ (c ∷ r)
-    → (i < length bs) × (l ≡ take i bs) × (r ≡ drop (i + 1) bs)
-cut_meets a b bs i (inl h) c l r x la lb e = absurd (has_not_lacks c l r (either_lacks a b c (l ++ (c ∷ r)) x (subst (Lacks a) e h.1) (subst (Lacks b) e h.2)))
-cut_meets a b bs i (inr h) c l r x la lb e =
-    let u = split_unique a b c h.0 l (take i bs) r (drop (i + 1) bs) x h.1 la lb h.4 h.5 (sym e ∙ h.3) in
-    (h.2, u.0, u.2)
+-- the last a or b of a list cuts it in one way too
+pub last_unique : (a b c c' : ℕ) (l l' r r' : List ℕ) → Either a b c → Either a b c' → Lacks a r → Lacks b r → Lacks a r' → Lacks b r' → l ++ (c ∷ r) ≡ l' ++ (c' ∷ r') → (l ≡ l') × (c ≡ c') × (r ≡ r')
+last_unique a b c c' [] [] r r' x y h h₂ k k₂ e = (refl, cc, cc)
+last_unique a b c c' [] (z ∷ l') r r' x y h h₂ k k₂ e = let t : r ≡ l' ++ (c' ∷ r') = cc in absurd (has_not_lacks c' l' r' (subst (Lacks c') t (either_lacks a b c' r y h h₂)))
+last_unique a b c c' (z ∷ l) [] r r' x y h h₂ k k₂ e = let t : r' ≡ l ++ (c ∷ r) = cc in absurd (has_not_lacks c l r (subst (Lacks c) t (either_lacks a b c r' x k k₂)))
+last_unique a b c c' (z ∷ l) (z' ∷ l') r r' x y h h₂ k k₂ e =
+    let w : z ≡ z' = cc in
+    let t : l ++ (c ∷ r) ≡ l' ++ (c' ∷ r') = cc in
+    let u = last_unique a b c c' l l' r r' x y h h₂ k k₂ t in
+    (ap₂ ◌∷◌ w u.0, u.1, u.2)
 
-pub cut_short : (a b : ℕ) (bs : List ℕ) (i : ℕ) → Cut a b bs i → i < length bs → (c : ℕ) × Either a b c × (bs ≡ take i bs ++ (c ∷ drop (i + 1) bs))
-cut_short a b bs i (inl h) l = absurd (let e = h.0 in omega arith)
-cut_short a b bs i (inr h) l = (h.0, h.1, h.3)
+pub append_same : (l r r' : List ℕ) → l ++ r ≡ l ++ r' → r ≡ r'
+append_same [] r r' e = e
+append_same (x ∷ l) r r' e = append_same l r r' (cc)
+
+-- ---- `split_once` at a text
+abbrev pub IsTextSplit : List ℕ → List ℕ → Option (Bor (List ℕ) × Bor (List ℕ)) → Type 0
+IsTextSplit p bs r = MatchOption r (FindsText p bs None)
+    (λ x. (i : ℕ) × (j : ℕ) × FindsText p bs (Some (i, j)) × (x.0.now ≡ take i bs) × (x.1.now ≡ drop j bs) × (i ≤ j) × (length x.0.now ≡ i) × (length x.1.now + j ≡ length bs))
+
+-- two places of c, of which the second is the first of its list
+nearer : (c : ℕ) (x a r r' : List ℕ) → Lacks c a → x ++ (c ∷ r) ≡ a ++ (c ∷ r') → ((x ≡ a) × (r ≡ r')) ⊎ (length a < length x)
+nearer c [] [] r r' h e = inl (refl, cc)
+nearer c [] (y ∷ a) r r' h e = absurd (h.0 (cc))
+nearer c (z ∷ x) [] r r' h e = inr (omega arith)
+nearer c (z ∷ x) (y ∷ a) r r' h e =
+    let w : z ≡ y = cc in
+    let t : x ++ (c ∷ r) ≡ a ++ (c ∷ r') = cc in
+    elim (nearer c x a r r' h.1 t) [ inl k ↦ inl (ap₂ ◌∷◌ w k.0, k.1) | inr k ↦ inr (omega arith) ]
+
+-- a text that begins with c, after bytes without a c, is where the split is
+pub text_after : (c : ℕ) (p bs a u : List ℕ) (r : Option (Bor (List ℕ) × Bor (List ℕ))) → IsTextSplit (c ∷ p) bs r → bs ≡ a ++ (c ∷ (p ++ u)) → Lacks c a → MatchOption r ⊥ (λ x. (x.0.now ≡ a) × (x.1.now ≡ u))
+text_after c p bs a u None h e l = split_text_parts (c ∷ p) bs None h a u e
+text_after c p bs a u (Some x) h e l =
+    elim (nearer c x.0.now a (p ++ x.1.now) (p ++ u) l (sym (split_text_parts (c ∷ p) bs (Some x) h) ∙ e)) [
+      | inl k ↦ (k.0, append_same p x.1.now u k.1)
+      | inr k ↦ absurd (h.2.0 (length a) (let n = h.6 in omega arith) u (ap (drop (length a)) e ∙ drop-append_seam a (c ∷ (p ++ u))))
+    ]

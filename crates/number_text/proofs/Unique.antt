@@ -60,7 +60,7 @@ head_append (x ∷ t) u l = refl
 whole_some : (t : List ℕ) (p : ℤ) → Whole t p → 0 < length t
 whole_some t p w = let a = whole_tail t p w in subst (λ x. 0 < length x) (sym a.2) (omega arith)
 
-plain_head : (bs : List ℕ) (p : ℤ) (m : ℕ) → Plain bs p m → get_or bs 0 0 ≢ 40
+pub plain_head : (bs : List ℕ) (p : ℤ) (m : ℕ) → Plain bs p m → get_or bs 0 0 ≢ 40
 plain_head bs p m (inl h) e = whole_head bs p h.0 e
 plain_head bs p m (inr (t, u, f, o)) e = whole_head t p o.0 (sym (head_append t (47 ∷ u) (whole_some t p o.0)) ∙ ap (λ l. get_or l 0 0) (sym f) ∙ e)
 

@@ -15,8 +15,7 @@
 --   Rooted D bs p q m   the bytes are `(p+q√D)/m`, for a D above 0 and an m that is not 0
 --   Spells D bs p q m   the bytes spell (p + q√D)/m in one of the three ways
 --   Lacks c bs          the byte c does not stand in bs
---   Cut a b bs i        i is where a or b stands first in bs, and the length of bs where neither does
-use Rattle.std.specs.Prelude.{◌≡◌, ℕ, ◌+◌, ◌<◌, ◌≤◌, ◌≢◌, ◌⊎◌, List, [], ◌∷◌, ◌++◌, length, take, drop, ℤ, pos, neg_ℤ}
+use Rattle.std.specs.Prelude.{◌≡◌, ℕ, ◌<◌, ◌≤◌, ◌≢◌, ◌⊎◌, List, [], ◌∷◌, ◌++◌, length, ℤ, pos, neg_ℤ}
 use Rattle.std.specs.Str.Parse.{AllDigits, digits_value}
 use Rattle.numbers.specs.Texts.{root_sign}
 
@@ -73,8 +72,3 @@ Lacks c (x ∷ xs) = (x ≢ c) × Lacks c xs
 
 abbrev pub Either : ℕ → ℕ → ℕ → Type 0
 Either a b c = (c ≡ a) ⊎ (c ≡ b)
-
-abbrev pub Cut : ℕ → ℕ → List ℕ → ℕ → Type 0
-Cut a b bs i =
-    ((i ≡ length bs) × Lacks a bs × Lacks b bs)
-    ⊎ ((c : ℕ) × Either a b c × (i < length bs) × (bs ≡ take i bs ++ (c ∷ drop (i + 1) bs)) × Lacks a (take i bs) × Lacks b (take i bs))

@@ -1,13 +1,12 @@
 #![tactic(auto)]
 
 // Numbers from text: the reader of what numbers are printed as.
-ghost use Rattle.std.specs.Prelude.{◌≡◌, ◌≢◌, MatchBool};
 ghost use Rattle.number_text.specs.Readings.{Reads, ReadsBack, Short};
 ghost use Rattle.numbers.specs.Fractions.{fraction_row};
 ghost use Rattle.numbers.specs.RootValues.{root_row};
 
 use marks::spelled;
-use numbers::{Fraction, Number, Parts, Radicand, Root, lowest_parts};
+use numbers::{Fraction, Number, Radicand, Root, lowest_parts};
 
 mod digits;
 mod marks;
@@ -21,29 +20,19 @@ pub enum TextFault {
     NotHeld,
 }
 
-fn same_parts(a: Parts, b: Parts) -> bool
-    ensures { MatchBool result (a ≡ b) (a ≢ b) }
-{
-    a.p == b.p && a.q == b.q && a.m == b.m
-}
-
 // The number of a kind that a text spells. What is printed reads back.
 pub fn read_number<N: Number + Copy>(text: &str) -> Result<N, TextFault>
     ensures reads { Reads N.Number.radicand N.Number.value text.now result }
     ensures back { ReadsBack N.Number.radicand N.Number.parts text.now result }
 {
-    let d = N::under_root() as u64;
-    let Some(raw) = spelled(text.as_bytes(), d) else {
-        return Err(TextFault::NotANumber);
-    };
-    let Some(row) = lowest_parts(raw) else {
-        return Err(TextFault::NotANumber);
-    };
+    let raw = spelled(text, N::under_root()).ok_or(TextFault::NotANumber)?;
+    let row = lowest_parts(raw).ok_or(TextFault::NotANumber)?;
     let number = N::read(row);
-    if same_parts(number.row(), row) {
-        return Ok(number);
+    if number.row() == row {
+        Ok(number)
+    } else {
+        Err(TextFault::NotHeld)
     }
-    Err(TextFault::NotHeld)
 }
 
 // Every fraction is printed with parts short enough to be read back.

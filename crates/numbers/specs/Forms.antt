@@ -7,9 +7,9 @@
 --   plain_row p m               the row of p/m
 --   read_as D b row             the number of the row where b is true, else 0
 --   HoldsExactly D size value   the values mean exactly the numbers whose lowest parts are at most `size` in size
-use Rattle.std.specs.Prelude.{◌≡◌, ℕ, ◌≤◌, Bool, true, false, ◌&&◌, T, ◌≢◌, ◌↔◌, ℤ, pos, ◌<ℤ◌, Ok, Err, Result, ◌==◌, int_lt, nat_le, unsigned_abs}
+use Rattle.std.specs.Prelude.{◌≡◌, ℕ, ◌≤◌, Bool, true, false, ◌&&◌, T, ◌↔◌, ℤ, pos, ◌<ℤ◌, ◌==◌, int_lt, nat_le, unsigned_abs}
 use Rattle.algebra.specs.Gcd.{gcd₃}
-use Rattle.algebra.specs.Exact.{Exact, exact, zero_e, mul_e, inv_e}
+use Rattle.algebra.specs.Exact.{Exact, exact, zero_e}
 use Rattle.algebra.specs.Laws.{Plain, LowestParts}
 use Rattle.numbers.specs.Answers.{Held}
 use Rattle.numbers.specs.Rows.{row_number}

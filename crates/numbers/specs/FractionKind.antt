@@ -1,18 +1,17 @@
 -- Fractions are a kind: their rows, and the laws of a number. Assumes nothing.
-use Rattle.std.specs.Prelude.{◌≡◌, ◌≤◌, T, ◌≢◌, ℤ, pos, ◌==◌, unsigned_abs, refl}
-use Rattle.std.proofs.Common.{sym, ◌∙◌, ap, subst, eqb→eq, lit≤}
+use Rattle.std.specs.Prelude.{◌≡◌, ◌≤◌, T, ◌≢◌, ℤ, ◌==◌, unsigned_abs, refl}
+use Rattle.std.proofs.Common.{sym, ap, subst, eqb→eq, lit≤}
 use mathlib.Core.HLevel.{is_prop→PathP}
 use Rattle.std.proofs.Math.Dec.{T_prop}
 use Rattle.algebra.specs.Exact.{zero_e, whole_e}
 use Rattle.algebra.proofs.Booleans.{and_split}
 use Rattle.algebra.proofs.Integers.{abs_zero}
 use Rattle.numbers.specs.Answers.{Held}
-use Rattle.numbers.specs.Rows.{row_number, Row}
+use Rattle.numbers.specs.Rows.{Row}
 use Rattle.numbers.specs.Forms.{has_form, Formed, plain_row, HoldsExactly}
 use Rattle.numbers.specs.Fractions.{fraction_size, fraction_row, fraction_value, fraction_reading, is_fraction_row}
 use Rattle.numbers.specs.declared.Parts.{Parts}
 use Rattle.numbers.specs.declared.fraction.Fraction.{Fraction}
-use Rattle.numbers.specs.FractionSteps.{zero_row}
 use Rattle.numbers.specs.RowKinds as Kind
 
 pub formed : (k : Fraction) → Formed 0 fraction_size (fraction_row k)

@@ -1,7 +1,7 @@
 -- Numbers with a root are a kind: their rows, and the laws of a number. Assumes nothing.
-use Rattle.std.specs.Prelude.{◌≡◌, ℕ, ◌+◌, ◌*◌, ◌≤◌, T, ◌≢◌, ℤ, pos, IfOk, Ok, Err, Result, unsigned_abs}
+use Rattle.std.specs.Prelude.{◌≡◌, ℕ, ◌+◌, ◌*◌, ◌≤◌, T, ◌≢◌, ℤ, unsigned_abs}
 use Rattle.std.proofs.Math.Path.{refl}
-use Rattle.std.proofs.Common.{sym, ◌∙◌, arith, lit≤}
+use Rattle.std.proofs.Common.{arith, lit≤}
 use mathlib.Core.HLevel.{is_prop→PathP}
 use Rattle.std.proofs.Math.Dec.{T_prop}
 use Rattle.algebra.specs.Exact.{zero_e, whole_e}
@@ -13,9 +13,7 @@ use Rattle.numbers.specs.Forms.{has_form, Formed, HoldsExactly}
 use Rattle.numbers.specs.Roots.{root_size, Under, root_reading}
 use Rattle.numbers.specs.declared.Parts.{Parts}
 use Rattle.numbers.specs.declared.root.Root.{Root}
-use Rattle.numbers.specs.declared.NumberFault.{NumberFault}
 use Rattle.numbers.specs.RowKinds as Kind
-use Rattle.numbers.specs.RootSteps.{zero_row}
 
 pub plain : (D : ℕ) → Under D → (q : ℤ) → Plain D q
 plain D u q e = absurd (omega arith)

@@ -2,17 +2,16 @@
 use Rattle.std.specs.Prelude.{◌≡◌, ℕ, ◌+◌, ◌*◌, ◌≤◌, T, ◌≢◌, ℤ, pos, negsuc, ◌-ℤ◌, ◌*ℤ◌, ◌<ℤ◌, FitsSigned, unsigned_abs}
 use Rattle.std.proofs.Common.{sym, ◌∙◌, ap, ap₂, subst, arith, ltb→lt, lt→ltb, lit<, to_z, of_z}
 use Rattle.std.proofs.Math.Nat as NatL
-use Rattle.std.proofs.lemmas.Int.{ints}
 use Rattle.algebra.specs.Exact.{Radicand, exact, zero_e, mul_e, inv_e}
 use Rattle.algebra.specs.Laws.{Plain}
-use Rattle.algebra.proofs.RingSolver.{◌:*◌, ◌:-◌, lit, ◌≋◌, solve₃, solve₄}
+use Rattle.algebra.proofs.RingSolver.{◌:*◌, ◌≋◌, solve₃}
 use Rattle.algebra.proofs.Integers.{ℤ_ring, abs_mul}
 use Rattle.algebra.proofs.Triples.{exact_zero, zero_parts}
 use Rattle.algebra.proofs.Quotients.{root_quotient, norm_nonzero}
 use Rattle.numbers.specs.Rows.{row_number}
 use Rattle.numbers.specs.Steps.{sign}
 use Rattle.numbers.specs.Forms.{Within, has_form}
-use Rattle.numbers.specs.Roots.{root_size, Under, Bounded}
+use Rattle.numbers.specs.Roots.{root_size}
 use Rattle.numbers.specs.declared.Parts.{Parts}
 use Rattle.std.specs.Int.{w64}
 use Rattle.numbers.specs.Machine.{word}

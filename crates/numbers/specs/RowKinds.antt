@@ -1,5 +1,5 @@
 -- What holds of every kind whose values are rows of one form. Assumes nothing.
-use Rattle.std.specs.Prelude.{◌≡◌, ℕ, ◌≤◌, Bool, true, false, ◌&&◌, T, ◌≢◌, ℤ, pos, IfOk, Ok, Err, Result, ◌==◌, int_lt, nat_le, unsigned_abs, refl}
+use Rattle.std.specs.Prelude.{◌≡◌, ℕ, ◌≤◌, Bool, true, false, ◌&&◌, T, ◌≢◌, ℤ, pos, Ok, Err, Result, ◌==◌, int_lt, nat_le, unsigned_abs, refl}
 use Rattle.std.proofs.Common.{sym, ◌∙◌, ap, subst, le→leb, lt→ltb}
 use Rattle.std.proofs.Math.Nat as NatL
 use native.Mathlib.Omega.{arith}

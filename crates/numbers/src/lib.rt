@@ -18,7 +18,7 @@ pub use root::{Five, Radicand, Root, Three, roots_hold_exactly};
 pub use rows::lowest_parts;
 
 // A row of a list of numbers: (p + q√D)/m. Any three words may stand in it: the kind that reads it says what it means.
-#[derive(Clone, Copy)]
+#[derive(Clone, Copy, PartialEq, Eq, Debug)]
 pub struct Parts {
     pub p: i64,
     pub q: i64,

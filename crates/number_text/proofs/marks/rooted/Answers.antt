@@ -1,40 +1,93 @@
-use Rattle.std.proofs.Common.{◌≡◌, ℕ, ◌<◌, take, drop, ℤ, pos, nat_abs, ◌<ℤ◌, sym, subst, subst₂, arith, w64, SFits, to_z, rules}
-use Rattle.std.proofs.lemmas.Int.{ints, to_z-of_z, to_z_pos}
-use Rattle.number_text.specs.Spelling.{Inside, Below}
-use Rattle.number_text.proofs.Numerals.{natural_bound}
-use Rattle.number_text.proofs.Shapes.{rooted_parts, parts_rooted}
+use Rattle.std.proofs.Common.{◌≡◌, ℕ, zero, suc, ◌<◌, List, None, Some, ℤ, pos, nat_abs, ◌<ℤ◌, sym, refl, ap, ◌∙◌, subst, subst₂, arith, w64, SFits, to_z, of_z, rules}
+use Rattle.std.proofs.lemmas.Int.{ints, to_z-of_z}
+use Rattle.std.proofs.lemmas.Str.Pattern.{strip_prefix_char}
+use Rattle.number_text.specs.Spelling.{Natural, Positive, Rooted}
+use Rattle.number_text.specs.Readings.{RootedAnswer}
+use Rattle.number_text.proofs.Numerals.{positive_unique}
+use Rattle.number_text.proofs.Shapes.{no_close_mark, no_root_mark, rooted_parts, parts_rooted}
 use Rattle.number_text.proofs.marks.rooted.Goals as goal
+use Rattle.number_text.proofs.marks.rooted.Goals.{then-d-eq0-via-then-d-eq0, then-d-eq0-via-else-d-eq0+in_ok-positive+then-branch-d}
 
-pub returns-in_default-inside : goal.returns-in_default-inside
-returns-in_default-inside c p q m h =
-    let k = rooted_parts c.args.d c.args.text.now c.in-Some.rest.now c.first-close.result p q m c.in-Some.ensures c.first-close.ensures h in
-    c.in_default-inside.ensures p q (subst (λ x. Inside c.args.d x p q) (sym c.before-2.ensures) k.0)
+pub returns-in_err-strip_prefix : goal.returns-in_err-strip_prefix
+returns-in_err-strip_prefix c D e =
+    let bs = c.args.text.now in
+    subst (RootedAnswer D bs) (sym c.from_residual.ensures) (λ p q m h. strip_prefix_char 40 bs None c.in_err-strip_prefix.ensures.cases (omega arith) _ h.2)
 
-pub returns-in_default-below : goal.returns-in_default-below
-returns-in_default-below c p q m h =
-    let k = rooted_parts c.args.d c.args.text.now c.in-Some.rest.now c.first-close.result p q m c.in-Some.ensures c.first-close.ensures h in
-    c.in_default-below.ensures m (subst (λ x. Below x m) (sym c.after.ensures) k.1)
+pub returns-in_err-inside : goal.returns-in_err-inside
+returns-in_err-inside c D e =
+    let bs = c.args.text.now in let rest = c.in_ok-strip_prefix.field-0 in
+    let b = strip_prefix_char 40 bs (Some rest) c.in_ok-strip_prefix.ensures.cases (omega arith) in
+    subst (RootedAnswer D bs) (sym c.from_residual-in_err-inside.ensures) (λ p q m. no_close_mark D bs rest.now b p q m c.in_err-inside.ensures.cases)
 
-pub overflow_cast-result : goal.overflow_cast-result
-overflow_cast-result c = let h = c.in-Some-below.ensures in let b = natural_bound h.0 c.in-Some-below.m h.2 in omega (arith, ints)
+pub returns-in_err-above : goal.returns-in_err-above
+returns-in_err-above c D e =
+    let bs = c.args.text.now in let rest = c.in_ok-strip_prefix.field-0 in
+    let b = strip_prefix_char 40 bs (Some rest) c.in_ok-strip_prefix.ensures.cases (omega arith) in
+    let x = c.in_ok-inside in
+    subst (RootedAnswer D bs) (sym c.from_residual-in_err-above.ensures) (λ p q m. no_root_mark D bs rest.now b p q m (x.inside, x.below) x.ensures.cases c.in_err-above.ensures.cases)
+
+pub returns-in_err-positive : goal.returns-in_err-positive
+returns-in_err-positive c D e =
+    let bs = c.args.text.now in let rest = c.in_ok-strip_prefix.field-0 in
+    let b = strip_prefix_char 40 bs (Some rest) c.in_ok-strip_prefix.ensures.cases (omega arith) in
+    let x = c.in_ok-inside in let y = c.in_ok-above in
+    subst (RootedAnswer D bs) (sym c.from_residual-in_err-positive.ensures)
+    (λ p q m h. let k = rooted_parts D bs rest.now b p q m (x.inside, x.below) x.ensures.cases (y.above, y.root) y.ensures.cases h in c.in_err-positive.ensures (pos D) (D, k.1, refl))
+
+pub returns-then-d-eq0 : goal.returns-then-d-eq0
+returns-then-d-eq0 c D e p q m h =
+    let bs = c.args.text.now in let rest = c.in_ok-strip_prefix.field-0 in
+    let b = strip_prefix_char 40 bs (Some rest) c.in_ok-strip_prefix.ensures.cases (omega arith) in
+    let x = c.in_ok-inside in let y = c.in_ok-above in
+    let k = rooted_parts D bs rest.now b p q m (x.inside, x.below) x.ensures.cases (y.above, y.root) y.ensures.cases h in
+    let o : 0 < D = k.4 in
+    elim c.then-d-eq0.branch [
+      | then-d-eq0-via-then-d-eq0 w ↦ omega (arith, ints)
+      | then-d-eq0-via-else-d-eq0+in_ok-positive+then-branch-d w ↦
+          w.if-branch-d.true (ap (of_z w64) (positive_unique y.root.now w.in_ok-positive.field-0 (pos D) w.in_ok-positive.ensures (D, k.1, refl) ∙ sym e))
+    ]
+
+pub returns-in_err-p : goal.returns-in_err-p
+returns-in_err-p c D e =
+    let bs = c.args.text.now in let rest = c.in_ok-strip_prefix.field-0 in
+    let b = strip_prefix_char 40 bs (Some rest) c.in_ok-strip_prefix.ensures.cases (omega arith) in
+    let x = c.in_ok-inside in let y = c.in_ok-above in
+    subst (RootedAnswer D bs) (sym c.from_residual-in_err-p.ensures)
+    (λ p q m h. let k = rooted_parts D bs rest.now b p q m (x.inside, x.below) x.ensures.cases (y.above, y.root) y.ensures.cases h in c.in_err-p.ensures p q k.0)
+
+pub returns-in_err-m : goal.returns-in_err-m
+returns-in_err-m c D e =
+    let bs = c.args.text.now in let rest = c.in_ok-strip_prefix.field-0 in
+    let b = strip_prefix_char 40 bs (Some rest) c.in_ok-strip_prefix.ensures.cases (omega arith) in
+    let x = c.in_ok-inside in let y = c.in_ok-above in
+    subst (RootedAnswer D bs) (sym c.from_residual-in_err-m.ensures)
+    (λ p q m h. let k = rooted_parts D bs rest.now b p q m (x.inside, x.below) x.ensures.cases (y.above, y.root) y.ensures.cases h in c.in_err-m.ensures m k.2 k.3)
+
+natural_at : (bs : List ℕ) (D : ℕ) → Positive bs (pos D) → Natural bs D
+natural_at bs D (n, h, e) = subst (Natural bs) (sym (let k : D ≡ n = omega (arith, ints) in k)) h
+
+above_zero : (m : ℤ) → pos 0 <ℤ m → 0 < nat_abs m
+above_zero m h = omega (arith, ints)
+
+nonzero : (D : ℕ) (d : ℤ) → d ≡ pos D → ¬ (of_z w64 d ≡ 0) → 0 < D
+nonzero zero d e n = absurd (n (ap (of_z w64) e))
+nonzero (suc D) d e n = omega arith
 
 pub returns : goal.returns
-returns c =
-    let D = c.args.d in let bs = c.args.text.now in let rest = c.in-Some.rest.now in let i = c.first-close.result in
-    let p = c.in-Some-inside.p in let q = c.in-Some-inside.q in let m = c.in-Some-below.m in
-    let h = c.in-Some-below.ensures in
-    let b = natural_bound h.0 m h.2 in let n : 0 < m = h.3 in
+returns c D e =
+    let bs = c.args.text.now in let rest = c.in_ok-strip_prefix.field-0 in
+    let b = strip_prefix_char 40 bs (Some rest) c.in_ok-strip_prefix.ensures.cases (omega arith) in
+    let x = c.in_ok-inside in let y = c.in_ok-above in
+    let p = c.in_ok-p.p in let q = c.in_ok-p.q in let m = c.in_ok-m.m in
     let fp : SFits w64 p = search rules in
     let fq : SFits w64 q = search rules in
-    let e : to_z w64 m ≡ pos m = to_z_pos w64 m (omega arith) in
-    let s : Inside D (take i rest) p q = subst (λ x. Inside D x p q) c.before-2.ensures c.in-Some-inside.ensures in
-    let u : Below (drop i rest) m = subst (λ x. Below x m) c.after.ensures h in (
-      subst (λ (z : ℤ). pos 0 <ℤ z) (sym e) (omega (arith, ints)),
-      parts_rooted D bs rest i _ _ _ c.in-Some.ensures
-          (subst₂ (λ (x y : ℤ). Inside D (take i rest) x y) (sym (to_z-of_z w64 p fp)) (sym (to_z-of_z w64 q fq)) s)
-          (subst (λ (z : ℤ). Below (drop i rest) (nat_abs z)) (sym e) u)
-          (above D c.if-d-eq0.false),
+    let fm : SFits w64 m = search rules in
+    let fz : SFits w64 c.in_ok-positive.field-0 = search rules in
+    let z = sym (to_z-of_z w64 c.in_ok-positive.field-0 fz) ∙ ap (to_z w64) c.if-branch-d.false ∙ to_z-of_z w64 c.args.d c.ranges.d ∙ e in
+    let n = natural_at y.root.now D (subst (Positive y.root.now) z c.in_ok-positive.ensures) in
+    let o = c.in_ok-m.ensures in
+    let r = parts_rooted D bs rest.now b p q (nat_abs m) (x.inside, x.below) x.ensures.cases (y.above, y.root) y.ensures.cases c.in_ok-p.ensures n o.1 (above_zero m o.0) (nonzero D c.args.d e c.if-d-eq0.false) in
+    let w = sym (to_z-of_z w64 m fm) in (
+      subst (λ (x : ℤ). pos 0 <ℤ x) w o.0,
+      subst₂ (λ (x y : ℤ). Rooted D bs x y (nat_abs (to_z w64 (of_z w64 m)))) (sym (to_z-of_z w64 p fp)) (sym (to_z-of_z w64 q fq)) (subst (λ (x : ℤ). Rooted D bs p q (nat_abs x)) w r),
     )
-  where
-    above : (m : ℕ) → (m ≡ 0 → ⊥) → 0 < m
-    above m n = omega arith

@@ -1,4 +1,4 @@
-use Rattle.std.proofs.Common.{◌*◌, ◌≤◌, ℤ, pos, nat_abs, ◌<ℤ◌, sym, ap, ◌∙◌, subst, lit<, w64, SFits, rules}
+use Rattle.std.proofs.Common.{◌*◌, pos, ◌<ℤ◌, sym, ap, ◌∙◌, subst, lit<, w64, SFits, rules}
 use Rattle.numbers.specs.Rows.{row_number}
 use Rattle.numbers.specs.Roots.{root_size, root_good}
 use Rattle.numbers.specs.declared.Parts.{Parts}
