@@ -34,10 +34,7 @@ fn answered<N: Number + Copy + Display>(
     };
     match result {
         Ok(z) => format!(in heap; "{z}"),
-        Err(fault) => {
-            let n = fault.number();
-            format!(in heap; "refused-{n}")
-        }
+        Err(fault) => format!(in heap; "refused-{}", fault.number()),
     }
 }
 
@@ -49,8 +46,7 @@ fn worked<N: Number + Copy + Display>(
 ) -> Result<String, AllocError> {
     match (read_number::<N>(a), read_number::<N>(b)) {
         (Ok(x), Ok(y)) => answered(heap, op, x, y),
-        (Err(fault), _) => String::from_str(heap, refusal(fault)),
-        (_, Err(fault)) => String::from_str(heap, refusal(fault)),
+        (Err(fault), _) | (_, Err(fault)) => String::from_str(heap, refusal(fault)),
     }
 }
 

@@ -8,20 +8,15 @@ mod tests {
     use std::test::Fail;
 
     fn product<N: Number + Copy>(a: &str, b: &str) -> Option<Parts> {
-        match (read_number::<N>(a), read_number::<N>(b)) {
-            (Ok(x), Ok(y)) => match x.times(y) {
-                Ok(z) => Some(z.row()),
-                Err(_) => None,
-            },
-            _ => None,
-        }
+        let x: N = read_number(a).ok()?;
+        let y: N = read_number(b).ok()?;
+        let z = x.times(y).ok()?;
+        Some(z.row())
     }
 
     fn is_positive<N: Number + Copy>(text: &str) -> Option<bool> {
-        match read_number::<N>(text) {
-            Ok(x) => Some(x.is_positive()),
-            Err(_) => None,
-        }
+        let x: N = read_number(text).ok()?;
+        Some(x.is_positive())
     }
 
     #[test]
@@ -35,9 +30,7 @@ mod tests {
     #[test]
     fn golden_ratio_squared(rt: HostRuntime) -> Result<(), Fail> {
         let square = product::<Root<Five>>("(1+1√5)/2", "(1+1√5)/2").ok_or("refused")?;
-        assert_eq!(rt; square.p, 3);
-        assert_eq!(rt; square.q, 1);
-        assert_eq!(rt; square.m, 2);
+        assert_eq!(rt; square, Parts { p: 3, q: 1, m: 2 });
         Ok(())
     }
 

@@ -8,7 +8,8 @@
 --   PairAnswer P r           r is a pair of which P holds, or none where P holds of none
 --   RootedAnswer D bs r      r is the parts that the bytes spell with a root, or none where they spell none so
 --   Found D bs r             r is the parts that the bytes spell, or none where they spell none
-use Rattle.std.specs.Prelude.{◌≡◌, ℕ, ◌^◌, ◌<◌, List, ℤ, pos, ◌<ℤ◌, Some, None, Ok, Err, Option, Result, unsigned_abs}
+--   fault_text e             the text of a refusal
+use Rattle.std.specs.Prelude.{◌≡◌, ℕ, ◌^◌, ◌<◌, List, ℤ, pos, ◌<ℤ◌, Some, None, Ok, Err, Option, Result, unsigned_abs, codes}
 use Rattle.algebra.specs.Exact.{Exact, exact}
 use Rattle.numbers.specs.Answers.{Held}
 use Rattle.numbers.specs.Texts.{number_text}
@@ -46,3 +47,7 @@ Short row = (unsigned_abs row.p < 10 ^ 18) × (unsigned_abs row.q < 10 ^ 18) × 
 
 abbrev pub ReadsBack : {A : Type 0} (D : ℕ) → (A → Parts) → List ℕ → Result A TextFault → Type 0
 ReadsBack {A} D parts bs r = (k : A) → bs ≡ number_text (pos D) (parts k) → Short (parts k) → r ≡ Ok k
+
+abbrev pub fault_text : TextFault → List ℕ
+fault_text NotANumber = codes "the text spells no number"
+fault_text NotHeld = codes "the number is not one of its kind"

@@ -1,24 +1,40 @@
 #![tactic(auto)]
 
 // Numbers from text: the reader of what numbers are printed as.
-ghost use Rattle.number_text.specs.Readings.{Reads, ReadsBack, Short};
+ghost use Rattle.std.specs.Prelude.{Some};
+ghost use Rattle.number_text.specs.Readings.{Reads, ReadsBack, Short, fault_text};
 ghost use Rattle.numbers.specs.Fractions.{fraction_row};
 ghost use Rattle.numbers.specs.RootValues.{root_row};
 
 use marks::spelled;
 use numbers::{Fraction, Number, Radicand, Root, lowest_parts};
+use std::error::Error;
+use std::fmt;
 
 mod digits;
 mod marks;
 
 // Why a text gives no number.
-#[derive(Clone, Copy)]
+#[derive(Clone, Copy, PartialEq, Eq, Debug)]
 pub enum TextFault {
     // it spells none
     NotANumber,
     // it spells a number that the kind does not hold
     NotHeld,
 }
+
+impl fmt::Display for TextFault {
+    ghost output = { λ e. Some (fault_text e) };
+
+    fn fmt<W: fmt::Write>(&self, f: &mut fmt::Formatter<W>) -> fmt::Result {
+        match self {
+            TextFault::NotANumber => f.write_str("the text spells no number"),
+            TextFault::NotHeld => f.write_str("the number is not one of its kind"),
+        }
+    }
+}
+
+impl Error for TextFault {}
 
 // The number of a kind that a text spells. What is printed reads back.
 pub fn read_number<N: Number + Copy>(text: &str) -> Result<N, TextFault>

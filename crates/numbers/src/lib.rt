@@ -26,7 +26,7 @@ pub struct Parts {
 }
 
 // Why there is no number.
-#[derive(Clone, Copy)]
+#[derive(Clone, Copy, PartialEq, Eq, Debug)]
 pub enum NumberFault {
     // the exact result is none of the kind's numbers
     TooLarge,

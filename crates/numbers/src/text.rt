@@ -1,11 +1,12 @@
-// Numbers as text: `p`, `p/m`, and `(p+q√D)/m` where there is a root part.
+// Numbers as text: `p`, `p/m`, and `(p+q√D)/m` where there is a root part; and refusals.
 ghost use Rattle.std.specs.Prelude.{pos, Some};
 ghost use Rattle.numbers.specs.Fractions.{fraction_row};
 ghost use Rattle.numbers.specs.RootValues.{root_row};
-ghost use Rattle.numbers.specs.Texts.{number_text};
+ghost use Rattle.numbers.specs.Texts.{fault_text, number_text};
 ghost use Rattle.std.specs.Fmt.{WritesOnOk};
 
-use crate::{Fraction, Number, Parts, Radicand, Root};
+use crate::{Fraction, Number, NumberFault, Parts, Radicand, Root};
+use std::error::Error;
 use std::fmt;
 
 fn write_row<W: fmt::Write>(row: Parts, d: i64, f: &mut fmt::Formatter<W>) -> fmt::Result
@@ -41,3 +42,16 @@ impl<R: Radicand> fmt::Display for Root<R> {
         write_row(self.row(), R::D, f)
     }
 }
+
+impl fmt::Display for NumberFault {
+    ghost output = { λ e. Some (fault_text e) };
+
+    fn fmt<W: fmt::Write>(&self, f: &mut fmt::Formatter<W>) -> fmt::Result {
+        match self {
+            NumberFault::TooLarge => f.write_str("refused 1: the number is too large for its kind"),
+            NumberFault::ZeroDivisor => f.write_str("refused 2: the divisor is 0"),
+        }
+    }
+}
+
+impl Error for NumberFault {}
