@@ -3,7 +3,7 @@
 --   exact_field D good   the ordered field of the exact numbers with √D
 --   ring_of F            the ring of an ordered field, for the solver of ring identities
 use Rattle.std.proofs.Common.{◌≡◌, ℕ, zero, suc, ◌≢◌, nat_abs, refl, ap, inl, inr, arith}
-use Rattle.algebra.specs.Ring.{Ring, Ordered, Inverses}
+use Rattle.algebra.specs.Ring.{Ring, Ordered}
 use Rattle.algebra.specs.Field.{OrderedField}
 use Rattle.algebra.specs.Exact.{Exact, Radicand, zero_e, one_e}
 use Rattle.algebra.specs.Laws.{OrderedFieldLaws, ExactIsOrderedField}
@@ -107,6 +107,3 @@ order_of F = record {
   pos_add = F.pos_add;
   pos_mul = F.pos_mul;
 }
-
-abbrev pub inverses_of : (F : OrderedField) → Inverses (ring_of F)
-inverses_of F = record { inv = F.inv; mul-inv = F.mul-inv; inv-zero = F.inv-zero }

@@ -178,7 +178,3 @@ module _ (D : ℕ) (good : Radicand D) where
 
   abbrev pub exact_inverses : Inverses (exact_ring D)
   exact_inverses = record { inv = inv_e; mul-inv = mul-inv; inv-zero = inv-zero }
-
-  -- a square of a number other than 0 is positive
-  pub exact_square : (x : Exact D) → x ≢ zero_e D → PosE (mul_e x x)
-  exact_square x h = Ord.square_pos (exact_ring D) exact_ordered x h

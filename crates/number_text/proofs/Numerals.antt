@@ -4,7 +4,8 @@ use Rattle.std.specs.Str.Parse.{AllDigits, digits_value, ParsesSigned}
 use Rattle.std.specs.Result.{OkIff, result_ok}
 use Rattle.std.specs.Int.{IsInRange}
 use Rattle.std.proofs.lemmas.Str.Parse.{IsNumeralModel, numerals_by_value, tells_digits, digits_value_short, digit_from_value, digit_at, parse_signed_plain}
-use Rattle.number_text.specs.Spelling.{Natural, Positive, Minus, Whole, Step, Lacks}
+use Rattle.number_text.specs.Spelling.{Natural, Positive, Minus, Whole, Step}
+use Rattle.number_text.proofs.Splits.{Lacks}
 
 own : IsNumeralModel (AllDigits 10) (digits_value 10)
 own = numerals_by_value (AllDigits 10) tells_digits
@@ -68,9 +69,6 @@ step_unique bs z z' (inl (ds, e, h)) (inl (ds', e', h')) = positive_unique ds z 
 step_unique bs z z' (inl h) (inr k) = absurd (other_sign bs h.0 k.0 h.1 k.1)
 step_unique bs z z' (inr h) (inl k) = absurd (other_sign bs k.0 h.0 k.1 h.1)
 step_unique bs z z' (inr h) (inr k) = minus_unique bs z z' h k
-
-pub natural_bound : (bs : List ℕ) (n : ℕ) → Natural bs n → n < 10 ^ 18
-natural_bound bs n h = subst (λ k. k < 10 ^ 18) (sym h.is) (value_bound bs 18 h.digits h.few)
 
 -- what `parse` gives, for at most 18 digits
 pub read_digits : {E : Type 0} (bs : List ℕ) (r : Result ℤ E) → length bs ≤ 18 → ParsesSigned w64 10 bs r → get_or bs 0 0 ≢ 43 → get_or bs 0 0 ≢ 45 → MatchOption (result_ok r) ((z : ℤ) → ¬ Positive bs z) (Positive bs)

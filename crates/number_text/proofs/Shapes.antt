@@ -3,9 +3,9 @@ use Rattle.std.proofs.Common.{◌≡◌, ℕ, ◌<◌, ◌≢◌, List, [], ◌�
 use Rattle.std.proofs.lemmas.Str.Pattern.{IsSplitOnceResult, split_after, split_parts, split_text_parts}
 use Rattle.std.specs.Int.{IsInRange}
 use Rattle.numbers.specs.Texts.{root_sign}
-use Rattle.number_text.specs.Spelling.{Natural, Whole, Step, Over, Plain, Beside, Sum, Inside, Below, Rooted, Lacks, Either}
-use Rattle.number_text.proofs.Splits.{has_not_lacks, lacks_append, lacks_at, either_lacks, last_unique, append_same, IsTextSplit, text_after}
-use Rattle.number_text.proofs.Numerals.{natural_unique, natural_lacks, whole_lacks, step_lacks, digits_lack}
+use Rattle.number_text.specs.Spelling.{Natural, Whole, Step, Over, Plain, Beside, Sum, Inside, Below, Rooted}
+use Rattle.number_text.proofs.Splits.{Lacks, Either, has_not_lacks, lacks_append, lacks_at, either_lacks, last_unique, append_same, IsTextSplit, text_after}
+use Rattle.number_text.proofs.Numerals.{natural_unique, natural_lacks, whole_lacks, step_lacks}
 
 pub no_slash : IsInRange 48 57 47 → ⊥
 no_slash h = omega arith
@@ -28,16 +28,6 @@ no_plus h = omega arith
 
 no_minus : IsInRange 48 57 45 → ⊥
 no_minus h = omega arith
-
--- after its first byte, a whole number has no sign
-pub whole_tail : (t : List ℕ) (p : ℤ) → Whole t p → (x : ℕ) × (xs : List ℕ) × (t ≡ x ∷ xs) × Lacks 43 xs × Lacks 45 xs
-whole_tail [] p (inl h) = absurd (let k = h.1.some in omega arith)
-whole_tail (x ∷ xs) p (inl h) = (x, xs, refl, digits_lack 43 xs no_plus h.1.digits.1, digits_lack 45 xs no_minus h.1.digits.1)
-whole_tail t p (inr (ds, e, h)) = (45, ds, e, natural_lacks 43 ds h.0 no_plus h.1, natural_lacks 45 ds h.0 no_minus h.1)
-
-pub step_head : (u : List ℕ) (q : ℤ) → Step u q → (c : ℕ) × (r : List ℕ) × (u ≡ c ∷ r) × Either 43 45 c
-step_head u q (inl (ds, e, h)) = (43, ds, e, inl refl)
-step_head u q (inr (ds, e, h)) = (45, ds, e, inr refl)
 
 -- after its sign, a step has no sign
 pub step_tail : (u : List ℕ) (q : ℤ) → Step u q → (c : ℕ) × (r : List ℕ) × (u ≡ c ∷ r) × Either 43 45 c × Lacks 43 r × Lacks 45 r

@@ -1,4 +1,4 @@
--- Lists cut at a byte that stands nowhere before the cut. Assumes nothing.
+-- Lists cut at a byte that stands nowhere before the cut, or nowhere after it. Assumes nothing.
 use Rattle.std.proofs.Common.{◌≡◌, ℕ, zero, suc, ◌+◌, ◌<◌, ◌≤◌, ◌≢◌, ◌⊎◌, Bool, true, List, [], ◌∷◌, ◌++◌, length, get_or, take, drop, Some, None, Option, Bor, MatchOption, sym, refl, ap, ◌∙◌, subst, ap₂, inl, inr, arith}
 use Rattle.std.proofs.Math.Seq.{drop-append_seam}
 use Rattle.std.specs.Str.{NoCharPasses}
@@ -6,9 +6,16 @@ use Rattle.std.specs.Str.Pattern.{FindsText}
 use Rattle.std.proofs.lemmas.Bool.{false≢true}
 use Rattle.std.proofs.lemmas.Str.{NoCharPasses-byte}
 use Rattle.std.proofs.lemmas.Str.Pattern.{split_text_parts}
-use Rattle.number_text.specs.Spelling.{Lacks, Either}
 
--- a byte other than 0 that a list lacks is read at no place of it
+-- the byte c does not stand in the list
+abbrev pub Lacks : ℕ → List ℕ → Type 0
+Lacks c [] = Unit {0}
+Lacks c (x ∷ xs) = (x ≢ c) × Lacks c xs
+
+abbrev pub Either : ℕ → ℕ → ℕ → Type 0
+Either a b c = (c ≡ a) ⊎ (c ≡ b)
+
+-- byte by byte
 pub lacks_from : (c : ℕ) (l : List ℕ) → ((i : ℕ) → i < length l → get_or l i 0 ≢ c) → Lacks c l
 lacks_from c [] h = tt
 lacks_from c (x ∷ l) h = (h 0 (omega arith), lacks_from c l (λ i p. h (suc i) (omega arith)))
@@ -26,16 +33,15 @@ pub either_lacks : (a b c : ℕ) (l : List ℕ) → Either a b c → Lacks a l �
 either_lacks a b c l (inl e) h k = subst (λ x. Lacks x l) (sym e) h
 either_lacks a b c l (inr e) h k = subst (λ x. Lacks x l) (sym e) k
 
--- the first a or b of a list cuts it in one way
-pub split_unique : (a b c c' : ℕ) (l l' r r' : List ℕ) → Either a b c → Either a b c' → Lacks a l → Lacks b l → Lacks a l' → Lacks b l' → l ++ (c ∷ r) ≡ l' ++ (c' ∷ r') → (l ≡ l') × (c ≡ c') × (r ≡ r')
-split_unique a b c c' [] [] r r' x y h h₂ k k₂ e = (refl, cc, cc)
-split_unique a b c c' [] (z ∷ l') r r' x y h h₂ k k₂ e = absurd ((either_lacks a b c (z ∷ l') x k k₂).0 (let w : c ≡ z = cc in sym w))
-split_unique a b c c' (z ∷ l) [] r r' x y h h₂ k k₂ e = absurd ((either_lacks a b c' (z ∷ l) y h h₂).0 (cc))
-split_unique a b c c' (z ∷ l) (z' ∷ l') r r' x y h h₂ k k₂ e =
+-- the first c of a list cuts it in one way
+pub split_unique : (c : ℕ) (l l' r r' : List ℕ) → Lacks c l → Lacks c l' → l ++ (c ∷ r) ≡ l' ++ (c ∷ r') → (l ≡ l') × (r ≡ r')
+split_unique c [] [] r r' h k e = (refl, cc)
+split_unique c [] (z ∷ l') r r' h k e = absurd (k.0 (cc))
+split_unique c (z ∷ l) [] r r' h k e = absurd (h.0 (cc))
+split_unique c (z ∷ l) (z' ∷ l') r r' h k e =
     let w : z ≡ z' = cc in
-    let t : l ++ (c ∷ r) ≡ l' ++ (c' ∷ r') = cc in
-    let u = split_unique a b c c' l l' r r' x y h.1 h₂.1 k.1 k₂.1 t in
-    (ap₂ ◌∷◌ w u.0, u.1, u.2)
+    let u = split_unique c l l' r r' h.1 k.1 (cc) in
+    (ap₂ ◌∷◌ w u.0, u.1)
 
 -- a list with a c in it does not lack it
 pub has_not_lacks : (c : ℕ) (l r : List ℕ) → Lacks c (l ++ (c ∷ r)) → ⊥

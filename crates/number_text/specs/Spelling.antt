@@ -14,8 +14,7 @@
 --   Below bs m          the bytes are `)/` and m, which is not 0
 --   Rooted D bs p q m   the bytes are `(p+q√D)/m`, for a D above 0 and an m that is not 0
 --   Spells D bs p q m   the bytes spell (p + q√D)/m in one of the three ways
---   Lacks c bs          the byte c does not stand in bs
-use Rattle.std.specs.Prelude.{◌≡◌, ℕ, ◌<◌, ◌≤◌, ◌≢◌, ◌⊎◌, List, [], ◌∷◌, ◌++◌, length, ℤ, pos, neg_ℤ}
+use Rattle.std.specs.Prelude.{◌≡◌, ℕ, ◌<◌, ◌≤◌, ◌⊎◌, List, ◌∷◌, ◌++◌, length, ℤ, pos, neg_ℤ}
 use Rattle.std.specs.Str.Parse.{AllDigits, digits_value}
 use Rattle.numbers.specs.Texts.{root_sign}
 
@@ -65,10 +64,3 @@ Rooted D bs p q m = (t : List ℕ) × (u : List ℕ) × (bs ≡ 40 ∷ (t ++ u))
 
 abbrev pub Spells : ℕ → List ℕ → ℤ → ℤ → ℕ → Type 0
 Spells D bs p q m = (Plain bs p m × (q ≡ pos 0)) ⊎ Rooted D bs p q m
-
-abbrev pub Lacks : ℕ → List ℕ → Type 0
-Lacks c [] = Unit {0}
-Lacks c (x ∷ xs) = (x ≢ c) × Lacks c xs
-
-abbrev pub Either : ℕ → ℕ → ℕ → Type 0
-Either a b c = (c ≡ a) ⊎ (c ≡ b)

@@ -1,4 +1,3 @@
 pub mod RowProducts
 pub mod Given
 pub mod RootSigns
-pub mod RowTexts

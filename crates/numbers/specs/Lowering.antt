@@ -2,12 +2,12 @@
 use Rattle.std.specs.Prelude.{◌≡◌, ℕ, ◌/◌, ◌<◌, ◌≤◌, ◌&&◌, T, ◌≢◌, ℤ, pos, negsuc, ◌<ℤ◌, ◌==◌, int_lt, unsigned_abs, refl}
 use Rattle.std.proofs.Common.{sym, ◌∙◌, ap, ap₂, subst, arith, eqb→eq, ltb→lt, lt→ltb}
 use Rattle.std.proofs.Math.Nat as NatL
-use Rattle.algebra.specs.Gcd.{gcd, gcd₃}
+use Rattle.algebra.specs.Gcd.{gcd₃}
 use Rattle.algebra.specs.Rational.{part}
 use Rattle.algebra.specs.Exact.{exact, zero_e}
 use Rattle.algebra.specs.Laws.{Plain, LowestParts}
 use Rattle.algebra.proofs.Booleans.{and_split, and_join}
-use Rattle.algebra.proofs.Gcd.{gcd_right, gcd₃_is}
+use Rattle.algebra.proofs.Gcd.{gcd₃_is}
 use Rattle.algebra.proofs.Triples.{exact_zero}
 use Rattle.algebra.proofs.Lowest.{divisor, part_above, parts_lowest, parts_same, lowest_parts_unique}
 use Rattle.numbers.specs.Rows.{row_number}
@@ -26,14 +26,6 @@ divided_lowest p q (pos n) h =
       same = λ D. parts_same D p q n n0;
     }
 divided_lowest p q (negsuc n) h = elim h.lt [ ]
-
--- nothing but 1 divides 1
-pub whole_lowest : (p q : ℤ) → LowestOf (record { p = p; q = q; m = pos 1 }) (record { p = p; q = q; m = pos 1 })
-whole_lowest p q = record {
-  above = record { lt = tt };
-  lowest = λ D f. record { above = omega arith; plain = f; coprime = NatL.eq-one_of_dvd-one (gcd_right (gcd (unsigned_abs p) (unsigned_abs q)) 1) };
-  same = λ D. refl;
-}
 
 pub zero_lowest : (raw : Parts) → pos 0 <ℤ raw.m → raw.p ≡ pos 0 → raw.q ≡ pos 0 → LowestOf raw (record { p = pos 0; q = pos 0; m = pos 1 })
 zero_lowest raw h ep eq = record {

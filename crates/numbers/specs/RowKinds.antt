@@ -33,11 +33,6 @@ pub read_other : (D : ℕ) (b : Bool) (row : Parts) → ¬ T b → read_as D b r
 read_other D true row n = absurd (n tt)
 read_other D false row n = refl
 
--- a value that is the row's number where b holds, and else 0, is what the row is read as
-pub read_is : (D : ℕ) (b : Bool) (F : Type 0) (row : Parts) (x : Exact D) → (T b → F) → (F → T b) → (F → x ≡ row_number D row) → (¬ F → x ≡ zero_e D) → x ≡ read_as D b row
-read_is D true F row x to from h n = h (to tt)
-read_is D false F row x to from h n = n from
-
 module _ {A : Type 0} (D size : ℕ) (row : A → Parts) (formed : (k : A) → Formed D size (row k)) where
   pub same_rows : (a b : A) → row_number D (row a) ≡ row_number D (row b) → row a ≡ row b
   same_rows a b e =

@@ -12,19 +12,16 @@ use std::fmt;
 fn write_row<W: fmt::Write>(row: Parts, d: i64, f: &mut fmt::Formatter<W>) -> fmt::Result
     ensures { WritesOnOk W.write_str_gives f.old result (number_text d row) f.new }
 {
-    let p = row.p;
-    let q = row.q;
-    let m = row.m;
+    let Parts { p, q, m } = row;
     if q > 0 {
-        return write!(f, "({p}+{q}√{d})/{m}");
+        write!(f, "({p}+{q}√{d})/{m}")
+    } else if q < 0 {
+        write!(f, "({p}{q}√{d})/{m}")
+    } else if m != 1 {
+        write!(f, "{p}/{m}")
+    } else {
+        write!(f, "{p}")
     }
-    if q < 0 {
-        return write!(f, "({p}{q}√{d})/{m}");
-    }
-    if m == 1 {
-        return write!(f, "{p}");
-    }
-    write!(f, "{p}/{m}")
 }
 
 impl fmt::Display for Fraction {

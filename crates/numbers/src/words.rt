@@ -33,12 +33,9 @@ pub(crate) fn turned(x: i64, by: i64) -> i64
 pub(crate) fn common_divisor(a: u64, b: u64) -> u64
     ensures { result ≡ gcd a b }
 {
-    let mut x = a;
-    let mut y = b;
+    let (mut x, mut y) = (a, b);
     while y != 0 {
-        let rest = x % y;
-        x = y;
-        y = rest;
+        (x, y) = (y, x % y);
     }
     x
 }

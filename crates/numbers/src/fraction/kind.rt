@@ -42,7 +42,7 @@ impl InRows for Fraction {
     }
 }
 
-// a over b: p × m' over m × p', with the sign above.
+// a over b: p × m' over m × p', with the sign above. That of roots would take p' in twice, which no word holds at this size.
 fn quotient(a: Fraction, b: Fraction) -> Result<Fraction, NumberFault>
     ensures { Quotient fraction_value (fraction_value a) (fraction_value b) result }
 {

@@ -5,9 +5,9 @@ use Rattle.std.specs.Char.{char_set_contains}
 use Rattle.std.specs.Str.{NoCharPasses}
 use Rattle.std.specs.Str.Pattern.{HasCharAt}
 use Rattle.std.proofs.lemmas.Str.Pattern.{drop_at_char}
-use Rattle.number_text.specs.Spelling.{Whole, Step, Sum, Beside, Either}
+use Rattle.number_text.specs.Spelling.{Whole, Step, Sum, Beside}
 use Rattle.number_text.specs.Readings.{PairAnswer}
-use Rattle.number_text.proofs.Splits.{no_char_lacks}
+use Rattle.number_text.proofs.Splits.{Either, no_char_lacks}
 use Rattle.number_text.proofs.Shapes.{sum_sign, sum_beside}
 use Rattle.number_text.proofs.marks.sum.Goals as goal
 

@@ -31,9 +31,6 @@ sizes k = form_sizes fraction_size (fraction_row k) k.form
 fits : (k : Fraction) → Words (fraction_row k)
 fits k = words fraction_size (fraction_row k) (lit< tt) (sizes k)
 
-pub turned-requires : goal.turned-requires
-turned-requires c = let b = c.args.b in let s = (sizes b).m_size in subst (λ (z : ℤ). Room (nat_abs z)) (sym (word b.m (fits b).m_fits)) (omega arith)
-
 pub turned-requires-2 : goal.turned-requires-2
 turned-requires-2 c = let b = c.args.b in let s = (sizes b).p_size in subst (λ (z : ℤ). Room (nat_abs z)) (sym (word b.p (fits b).p_fits)) (omega arith)
 
