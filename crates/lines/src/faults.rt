@@ -1,5 +1,6 @@
 // Why an entry of a line is refused.
-ghost use Rattle.std.specs.Prelude.{◌≡◌, Ok, Err, MatchResult};
+ghost use Rattle.std.specs.Prelude.{◌≡◌, min, max, Ok, Err, MatchResult};
+ghost use Rattle.lines.specs.Laws.{place_mark};
 
 use numbers::NumberFault;
 
@@ -11,6 +12,27 @@ pub struct Mark {
     pub stop: usize,
     pub row: usize,
     pub column: usize,
+}
+
+impl Mark {
+    // The mark of a place.
+    pub fn at(level: u8, stop: usize, row: usize, column: usize) -> Mark
+        ensures { result ≡ place_mark level stop row column }
+    {
+        Mark {
+            level,
+            stop,
+            row,
+            column,
+        }
+    }
+
+    // The mark of a place of G and its mirror.
+    pub fn above(level: u8, stop: usize, row: usize, column: usize) -> Mark
+        ensures { result ≡ place_mark level stop (min row column) (max row column) }
+    {
+        Mark::at(level, stop, row.min(column), row.max(column))
+    }
 }
 
 // A marked place was asked.
@@ -38,10 +60,7 @@ impl From<Placed> for LineFault {
 pub fn at_place<T>(r: Result<T, NumberFault>, mark: Mark) -> Result<T, Placed>
     ensures { MatchResult r (λ x. result ≡ Ok x) (λ e. result ≡ Err (record { fault = e; mark = mark })) }
 {
-    match r {
-        Ok(x) => Ok(x),
-        Err(fault) => Err(Placed { fault, mark }),
-    }
+    r.map_err(|fault| Placed { fault, mark })
 }
 
 // Why numbers are not opened as a line.

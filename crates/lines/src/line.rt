@@ -1,10 +1,10 @@
 // What every line offers.
-ghost use Rattle.std.specs.Prelude.{◌≡◌, ℕ, ℤ, Option};
+ghost use Rattle.std.specs.Prelude.{◌≡◌, ℕ, suc, ◌^◌, ◌<◌, ◌⊎◌, ℤ, Option, MatchOption};
 ghost use Rattle.lines.specs.Kinds.{Finds};
 ghost use Rattle.lines.specs.Laws.{Lawful, Levelled};
 ghost use Rattle.algebra.proofs.ExactField.{exact_field};
 ghost use Rattle.control.specs.Line.{Lawful as ExactLawful};
-ghost use Rattle.lines.specs.Meaning.{Meaning, Answer, line_of};
+ghost use Rattle.lines.specs.Meaning.{Meaning, Answer, line_of, order_of};
 
 use super::faults::LineFault;
 use numbers::Number;
@@ -54,8 +54,17 @@ pub trait Line {
 }
 
 // In exact numbers every line is a lawful line of the theory of plans: its costs are symmetric, and F keeps the constant 1.
-pub fn every_line_is_lawful<L: Line>() -> u8
+pub fn every_line_is_lawful<L: Line>()
     ensures { (l : L) → ExactLawful (line_of (exact_field L.Number.Number.radicand L.Number.Number.good) L.Number.Number.value (L.Line.meaning l)) }
+{}
+
+// The row and column of the constant in G at a stop of a line of these sizes. There is none past the last stop, and none that could be
+// asked where the sizes add up to more than a word holds.
+pub fn constant(stops: usize, states: usize, inputs: usize, stop: usize) -> Option<usize>
+    ensures { MatchOption result ((order_of stops states inputs stop ≡ 0) ⊎ (2 ^ 64 < order_of stops states inputs stop)) (λ c. suc c ≡ order_of stops states inputs stop) }
 {
-    0
+    if stop < stops {
+        return inputs.checked_add(states);
+    }
+    (stop == stops).then_some(states)
 }

@@ -1,9 +1,22 @@
-// The numbers under which refusals are reported.
+// The numbers under which refusals are reported, and their sentences.
 ghost use Rattle.std.specs.Prelude.{◌≡◌};
 ghost use Rattle.lines.specs.Meaning.{line_fault};
 ghost use Rattle.lines.specs.Opening.{open_fault};
 
-use super::faults::{LineFault, OpenFault};
+use super::faults::{LineFault, Mark, OpenFault};
+use std::error::Error;
+use std::fmt;
+
+// `mark 1 0 2 2`: level, stop, row, column
+impl fmt::Display for Mark {
+    fn fmt<W: fmt::Write>(&self, f: &mut fmt::Formatter<W>) -> fmt::Result {
+        let level = self.level;
+        let stop = self.stop;
+        let row = self.row;
+        let column = self.column;
+        write!(f, "mark {level} {stop} {row} {column}")
+    }
+}
 
 impl LineFault {
     pub fn number(self) -> u8
@@ -13,6 +26,19 @@ impl LineFault {
     }
 }
 
+impl fmt::Display for LineFault {
+    fn fmt<W: fmt::Write>(&self, f: &mut fmt::Formatter<W>) -> fmt::Result {
+        let number = self.number();
+        let mark = self.mark;
+        write!(
+            f,
+            "refused {number} at {mark}: the number there is too large for its kind"
+        )
+    }
+}
+
+impl Error for LineFault {}
+
 impl OpenFault {
     pub fn number(self) -> u8
         ensures { result ≡ open_fault self }
@@ -20,7 +46,29 @@ impl OpenFault {
         match self {
             OpenFault::BadHeader => 3,
             OpenFault::BadLength => 4,
-            OpenFault::BadEntry { index: _ } => 5,
+            OpenFault::BadEntry { .. } => 5,
         }
     }
 }
+
+impl fmt::Display for OpenFault {
+    fn fmt<W: fmt::Write>(&self, f: &mut fmt::Formatter<W>) -> fmt::Result {
+        let number = self.number();
+        match self {
+            OpenFault::BadHeader => write!(
+                f,
+                "refused {number}: the header is missing, or a size is outside its limits"
+            ),
+            OpenFault::BadLength => write!(
+                f,
+                "refused {number}: there are more or fewer numbers than the header asks for"
+            ),
+            OpenFault::BadEntry { index } => write!(
+                f,
+                "refused {number} at index {index}: the number is beyond 9999 in size"
+            ),
+        }
+    }
+}
+
+impl Error for OpenFault {}

@@ -2,12 +2,12 @@
 mod entries;
 mod open;
 
+use super::reading::Sizes;
+
 // The numbers as they were given: N, the numbers of states and inputs, then for each stop before N the rows of F but the last and
 // the upper half of G, then the upper half of G at N.
 #[derive(Drop)]
 pub struct Table {
-    stops: u8,
-    states: u8,
-    inputs: u8,
+    sizes: Sizes,
     numbers: Vec<i64>,
 }

@@ -6,7 +6,7 @@ ghost use Rattle.lines.specs.Steadied.{steady_lawful, steady_levelled};
 
 use super::super::faults::{LineFault, Mark};
 use super::super::line::{Kind, Line};
-use super::super::reading::{number_at, order, row_start};
+use super::super::reading::{number_at, row_start};
 use super::super::worked::whole_at;
 use super::Steady;
 
@@ -15,7 +15,7 @@ impl<N: Kind + Copy> Steady<N> {
     fn f_number(&self, stop: usize, row: usize, column: usize) -> i64
         ensures { result ≡ whole_F self.now.stops 1 1 (steady_F self.now.f) stop row column }
     {
-        if stop >= self.stops as usize || row > 1 || column > 2 {
+        if stop >= usize::from(self.stops) || row > 1 || column > 2 {
             return 0;
         }
         if row == 0 {
@@ -30,7 +30,7 @@ impl<N: Kind + Copy> Steady<N> {
     {
         let low = row.min(column);
         let high = row.max(column);
-        if high >= order(self.stops, 1, 1, stop) || stop >= self.stops as usize {
+        if stop >= usize::from(self.stops) || high > 2 {
             return 0;
         }
         number_at(&self.g, row_start(3, low) + (high - low))
@@ -47,7 +47,7 @@ impl<N: Kind + Copy> Line for Steady<N> {
     ghost levelled = { λ s. steady_levelled N.Number.value N.Kind.find N.Kind.finds N.Number.wholes s.stops s.f s.g s.weight };
 
     fn stops(&self) -> usize {
-        self.stops as usize
+        usize::from(self.stops)
     }
 
     fn states(&self) -> usize {
@@ -63,25 +63,15 @@ impl<N: Kind + Copy> Line for Steady<N> {
     }
 
     fn f(&self, stop: usize, row: usize, column: usize) -> Result<N, LineFault> {
-        let mark = Mark {
-            level: 0,
-            stop,
-            row,
-            column,
-        };
+        let mark = Mark::at(0, stop, row, column);
         Ok(whole_at(self.f_number(stop, row, column), mark)?)
     }
 
     fn g(&self, stop: usize, row: usize, column: usize) -> Result<N, LineFault> {
-        if stop == self.stops as usize && row == 0 && column == 0 {
+        if stop == usize::from(self.stops) && row == 0 && column == 0 {
             return Ok(self.weight);
         }
-        let mark = Mark {
-            level: 0,
-            stop,
-            row: row.min(column),
-            column: row.max(column),
-        };
+        let mark = Mark::above(0, stop, row, column);
         Ok(whole_at(self.g_number(stop, row, column), mark)?)
     }
 }

@@ -14,12 +14,7 @@ impl<N: Kind + Copy> Steady<N> {
     pub fn open(numbers: &[i64], weight: N) -> Result<Steady<N>, OpenFault>
         ensures { MatchResult result (λ s. SteadyOpens numbers.now s.stops × (s.f ≡ take 3 (drop 1 numbers.now)) × (s.g ≡ take 6 (drop 4 numbers.now)) × (s.weight ≡ weight) × Unmarked (steady_line N.Number.radicand N.Kind.find s.stops s.f s.g s.weight)) (SteadyRefused numbers.now) }
     {
-        if numbers.len() < 1 {
-            return Err(OpenFault::BadHeader);
-        }
-        let Some(stops) = size_at(numbers, 0, 24) else {
-            return Err(OpenFault::BadHeader);
-        };
+        let stops = size_at(numbers, 0, 24).ok_or(OpenFault::BadHeader)?;
         if numbers.len() != 10 {
             return Err(OpenFault::BadLength);
         }

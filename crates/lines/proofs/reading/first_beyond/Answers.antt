@@ -1,24 +1,42 @@
-use Rattle.std.proofs.Common.{◌≡◌, ℕ, ◌≤◌, true, length, pos, sym, subst, arith, rules, below_more}
+use Rattle.std.proofs.Common.{◌≡◌, ℕ, ◌+◌, ◌-◌, ◌<◌, ◌≤◌, List, length, drop, ℤ, pos, Some, None, Option, MatchOption, sym, ◌∙◌, subst, arith, rules, length-drop}
 use native.Mathlib.Decide.{dec_lt}
-use Rattle.std.proofs.lemmas.List.{get_or_past}
-use Rattle.lines.specs.Whole.{Small, cell}
+use borrow.Author.Tests.{tests}
+use Rattle.std.specs.List.{AllWithin, HoldsAt}
+use Rattle.std.proofs.lemmas.Iterator.{IsFirst-from_position, YieldsList-from_slice}
+use Rattle.std.proofs.lemmas.List.{get_or_past, get_or-drop, take_all}
+use Rattle.lines.specs.Opening.{FirstBeyond}
+use Rattle.lines.specs.Whole.{Small, SmallFrom, cell}
 use Rattle.lines.proofs.reading.first_beyond.Goals as goal
 
-pub returns-then-not-is_small : goal.returns-then-not-is_small
-returns-then-not-is_small c = record {
-  from = omega arith;
-  inside = omega arith;
-  beyond = λ s. let e : c.is_small.result ≡ true = c.is_small.ensures.1 s in search rules;
-  before = c.loop-i.invariant;
-}
+module _ (zs : List ℤ) (j : ℕ) where
+  -- the number at a place of the rest
+  later : (P : ℤ → Type 0) (i : ℕ) → j ≤ i → P (cell (drop j zs) (i - j)) → P (cell zs i)
+  later P i h p = let e : j + (i - j) ≡ i = omega arith in subst (λ k. P (cell zs k)) e (subst P (get_or-drop j zs (i - j) (pos 0)) p)
 
-pub loop-i-preserved : goal.loop-i-preserved
-loop-i-preserved c = λ k h l.
-    below_more (λ (j : ℕ). c.args.from ≤ j → Small (cell c.args.numbers.now j)) c.loop-i.i (λ j m g. c.loop-i.invariant j g m) (λ g. c.is_small.ensures.0 (search rules)) k l h
+  none_beyond : AllWithin Small (drop j zs) 0 (length (drop j zs)) → SmallFrom j zs
+  none_beyond h i l =
+      elim (dec_lt i (length zs)) [
+        | yes m ↦ later Small i l (h (i - j) (pos 0) (omega arith) (omega (arith, length-drop j zs)))
+        | no n ↦ subst Small (sym (get_or_past zs i (pos 0) (omega arith))) (omega arith)
+      ]
+
+  beyond : (i : ℕ) → i < length (drop j zs) → ¬ Small (cell (drop j zs) i) → AllWithin Small (drop j zs) 0 i → FirstBeyond j zs (j + i)
+  beyond i l p h = record {
+    from = omega arith;
+    inside = omega (arith, length-drop j zs);
+    beyond = subst (λ z. ¬ Small z) (get_or-drop j zs i (pos 0)) p;
+    before = λ k m n. later Small k m (h (k - j) (pos 0) (omega arith) (omega arith));
+  }
+
+  moved : (r s : Option ℕ) → MatchOption r (AllWithin Small (drop j zs) 0 (length (drop j zs))) (λ i. (i < length (drop j zs)) × HoldsAt (λ z. ¬ Small z) (drop j zs) i × AllWithin Small (drop j zs) 0 i)
+      → MatchOption r (s ≡ None) (λ i. s ≡ Some (j + i)) → MatchOption s (SmallFrom j zs) (FirstBeyond j zs)
+  moved None s h e = subst (λ o. MatchOption o (SmallFrom j zs) (FirstBeyond j zs)) (sym e) (none_beyond h)
+  moved (Some i) s h e = subst (λ o. MatchOption o (SmallFrom j zs) (FirstBeyond j zs)) (sym e) (beyond i h.0 (h.1 (pos 0)) h.2)
 
 pub returns : goal.returns
-returns c = λ i h.
-    elim (dec_lt i (length c.args.numbers.now)) [
-      | yes l ↦ c.loop-i.invariant i h (omega arith)
-      | no n ↦ subst Small (sym (get_or_past c.args.numbers.now i (pos 0) (omega arith))) (omega arith)
-    ]
+returns c =
+    let zs = c.args.numbers.now in
+    let rest = take_all (length zs - c.args.from) (drop c.args.from zs) (omega (arith, length-drop c.args.from zs)) in
+    moved zs c.args.from c.position.result c.map.result
+    (IsFirst-from_position _ _ _ (λ z. ¬ Small z) Small c.position.ensures.ran (YieldsList-from_slice (drop c.args.from zs) (c.iter.ensures.rest ∙ rest)) (λ x q k. search (rules, tests)) (λ x q k. search (rules, tests)))
+    (search rules)
