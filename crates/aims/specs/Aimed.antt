@@ -1,6 +1,6 @@
 -- The aims, and the line with aims over the line below. Assumes nothing.
 --
---   aim ts n k                   the aim of state k at stop n, of the list ts: four for each of the stops 0 to 24, and 0 elsewhere
+--   aim ts n k                   the aim of state k at stop n, of the lists ts: one of four for each of the stops 0 to 24, and 0 elsewhere
 --   raised l                     the level of a layer over a line of level l: one more, but at most 255
 --   column .. n a last first j   the entry of row a and of the constant's column `last`, less the first j states' entries times their aims;
 --                                the states' columns begin at `first`
@@ -9,7 +9,7 @@
 --   Settable b n k v             an aim v may be set at stop n for state k: n is at most N and 24, k is below nx and 4, v is within ±999
 --   Replaced ts ts' n k v        the aims ts' are ts with v at stop n, state k
 --   aim_fault f                  the number of the refusal: 6
-use Rattle.std.specs.Prelude.{◌≡◌, ℕ, zero, suc, ◌+◌, ◌-◌, ◌*◌, ◌<◌, ◌≤◌, min, max, cond, ◌&&◌, ◌≢◌, ◌⊎◌, List, ℤ, pos, Option, ◌==◌, nat_lt, unsigned_abs}
+use Rattle.std.specs.Prelude.{◌≡◌, ℕ, zero, suc, ◌+◌, ◌-◌, ◌<◌, ◌≤◌, min, max, cond, ◌&&◌, ◌≢◌, ◌⊎◌, List, [], ℤ, pos, Option, ◌==◌, nat_lt, slice_index_or, unsigned_abs}
 use Rattle.algebra.specs.Exact.{Exact, add_e}
 use Rattle.lines.specs.Kinds.{entry_of}
 use Rattle.lines.specs.Laws.{place_mark}
@@ -20,8 +20,8 @@ use Rattle.aims.specs.declared.faults.AimFault.{AimFault}
 use Rattle.aims.specs.declared.faults.AimFault.TheVariants.{BadAim}
 use Rattle.aims.specs.Entries.{after, less}
 
-abbrev pub aim : List ℤ → ℕ → ℕ → ℤ
-aim ts n k = cond (nat_lt n 25 && nat_lt k 4) (cell ts (n * 4 + k)) (pos 0)
+abbrev pub aim : List (List ℤ) → ℕ → ℕ → ℤ
+aim ts n k = cond (nat_lt n 25 && nat_lt k 4) (cell (slice_index_or ts n []) k) (pos 0)
 
 abbrev pub raised : ℕ → ℕ
 raised l = min 255 (suc l)
@@ -72,7 +72,7 @@ pub record Settable {A : Type 0} (b : Meaning A) (n k : ℕ) (v : ℤ) : Type 0 
   pub state : (k < b.nx) × (k < 4)
   pub size : unsigned_abs v ≤ 999
 
-pub record Replaced (ts ts' : List ℤ) (n k : ℕ) (v : ℤ) : Type 0 where
+pub record Replaced (ts ts' : List (List ℤ)) (n k : ℕ) (v : ℤ) : Type 0 where
   pub here : aim ts' n k ≡ v
   pub elsewhere : (i j : ℕ) → (i ≢ n) ⊎ (j ≢ k) → aim ts' i j ≡ aim ts i j
 

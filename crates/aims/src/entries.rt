@@ -1,14 +1,13 @@
 // Aims over a line are a line.
-ghost use Rattle.std.specs.Prelude.{◌≡◌, ◌+◌, ◌-◌, ◌^◌, ◌<◌, ◌≤◌};
+ghost use Rattle.std.specs.Prelude.{◌≡◌, ◌+◌, ◌<◌};
 ghost use Rattle.lines.specs.Meaning.{Answer};
 ghost use Rattle.aims.specs.Aimed.{aim, aims_line, column, column_less, corner, corner_less, states_aimed};
 ghost use Rattle.aims.specs.Entries.{less};
 ghost use Rattle.aims.specs.Layered.{aims_lawful, aims_levelled};
 
-use super::constant::constant;
 use super::layer::Aims;
 use lines::faults::{LineFault, Mark};
-use lines::line::{Kind, Line};
+use lines::line::{Kind, Line, constant};
 use lines::worked::{minus_at, plus_at, times_at, whole_at};
 
 // sum − entry × aim
@@ -20,72 +19,57 @@ fn lessened<N: Kind + Copy>(sum: N, entry: N, aim: i64, mark: Mark) -> Result<N,
     Ok(minus_at(sum, product, mark)?)
 }
 
-impl<L: Line> Aims<L> {
+// A place in the constant's row or column: its stop, where there the states begin and the constant stands, and its mark.
+#[derive(Drop)]
+struct Border<'a, L: Line> {
+    over: &'a Aims<L>,
+    stop: usize,
+    first: usize,
+    last: usize,
+    mark: Mark,
+    ghost states: { first + (L.Line.meaning over.now.below).nx ≡ last },
+}
+
+impl<'a, L: Line> Border<'a, L> {
     // sum − entry of the row and of state k × aim
-    fn column_less(
-        &self,
-        stop: usize,
-        row: usize,
-        first: usize,
-        k: usize,
-        sum: L::Number,
-        mark: Mark,
-    ) -> Result<L::Number, LineFault>
-        requires { first + k < 2 ^ 64 }
-        ensures { Answer (column_less L.Number.Number.value L.Number.Kind.find (aim self.now.aims) (L.Line.meaning self.now.below) mark stop row first k sum) result }
+    fn column_less(&self, row: usize, k: usize, sum: L::Number) -> Result<L::Number, LineFault>
+        requires { k < (L.Line.meaning self.now.over.now.below).nx }
+        ensures { Answer (column_less L.Number.Number.value L.Number.Kind.find (aim self.now.over.now.aims) (L.Line.meaning self.now.over.now.below) self.now.mark self.now.stop row self.now.first k sum) result }
     {
-        let entry = self.below.g(stop, row, first + k)?;
-        lessened(sum, entry, self.aim(stop, k), mark)
+        let entry = self.over.below.g(self.stop, row, self.first + k)?;
+        lessened(sum, entry, self.over.aim(self.stop, k), self.mark)
     }
 
     // The new entry of a row in the constant's column.
-    fn column(
-        &self,
-        stop: usize,
-        row: usize,
-        last: usize,
-        mark: Mark,
-    ) -> Result<L::Number, LineFault>
-        requires { (L.Line.meaning self.now.below).nx ≤ last }
-        ensures { Answer (column L.Number.Number.value L.Number.Kind.find (aim self.now.aims) (L.Line.meaning self.now.below) mark stop row last (last - (L.Line.meaning self.now.below).nx) (states_aimed (L.Line.meaning self.now.below).nx)) result }
+    fn column(&self, row: usize) -> Result<L::Number, LineFault>
+        ensures { Answer (column L.Number.Number.value L.Number.Kind.find (aim self.now.over.now.aims) (L.Line.meaning self.now.over.now.below) self.now.mark self.now.stop row self.now.last self.now.first (states_aimed (L.Line.meaning self.now.over.now.below).nx)) result }
     {
-        let states = self.below.states();
-        let first = last - states;
-        let mut sum = self.below.g(stop, row, last)?;
-        for k in 0..states.min(4) {
-            sum = self.column_less(stop, row, first, k, sum, mark)?;
+        let mut sum = self.over.below.g(self.stop, row, self.last)?;
+        for k in 0..self.over.below.states().min(4) {
+            sum = self.column_less(row, k, sum)?;
         }
         Ok(sum)
     }
 
     // sum − (new entry + old entry of state k and the constant) × aim
-    fn corner_less(
-        &self,
-        stop: usize,
-        last: usize,
-        k: usize,
-        sum: L::Number,
-        mark: Mark,
-    ) -> Result<L::Number, LineFault>
-        requires states { (L.Line.meaning self.now.below).nx ≤ last }
-        requires state { k < (L.Line.meaning self.now.below).nx }
-        ensures { Answer (corner_less L.Number.Number.value L.Number.Kind.find (aim self.now.aims) (L.Line.meaning self.now.below) mark stop last (last - (L.Line.meaning self.now.below).nx) k sum) result }
+    fn corner_less(&self, k: usize, sum: L::Number) -> Result<L::Number, LineFault>
+        requires { k < (L.Line.meaning self.now.over.now.below).nx }
+        ensures { Answer (corner_less L.Number.Number.value L.Number.Kind.find (aim self.now.over.now.aims) (L.Line.meaning self.now.over.now.below) self.now.mark self.now.stop self.now.last self.now.first k sum) result }
     {
-        let row = last - self.below.states() + k;
-        let new = self.column(stop, row, last, mark)?;
-        let old = self.below.g(stop, row, last)?;
-        let both = plus_at(new, old, mark)?;
-        lessened(sum, both, self.aim(stop, k), mark)
+        let row = self.first + k;
+        let new = self.column(row)?;
+        let old = self.over.below.g(self.stop, row, self.last)?;
+        let both = plus_at(new, old, self.mark)?;
+        lessened(sum, both, self.over.aim(self.stop, k), self.mark)
     }
 
     // The new entry of the constant itself.
-    fn corner(&self, stop: usize, last: usize, mark: Mark) -> Result<L::Number, LineFault>
-        requires { (L.Line.meaning self.now.below).nx ≤ last }
-        ensures { Answer (corner L.Number.Number.value L.Number.Kind.find (aim self.now.aims) (L.Line.meaning self.now.below) mark stop last (last - (L.Line.meaning self.now.below).nx) (states_aimed (L.Line.meaning self.now.below).nx)) result }
+    fn corner(&self) -> Result<L::Number, LineFault>
+        ensures { Answer (corner L.Number.Number.value L.Number.Kind.find (aim self.now.over.now.aims) (L.Line.meaning self.now.over.now.below) self.now.mark self.now.stop self.now.last self.now.first (states_aimed (L.Line.meaning self.now.over.now.below).nx)) result }
     {
-        let mut sum = self.below.g(stop, last, last)?;
-        for k in 0..self.below.states().min(4) {
-            sum = self.corner_less(stop, last, k, sum, mark)?;
+        let mut sum = self.over.below.g(self.stop, self.last, self.last)?;
+        for k in 0..self.over.below.states().min(4) {
+            sum = self.corner_less(k, sum)?;
         }
         Ok(sum)
     }
@@ -113,8 +97,7 @@ impl<L: Line> Line for Aims<L> {
     }
 
     fn level(&self) -> u8 {
-        let below = self.below.level();
-        if below < 255 { below + 1 } else { 255 }
+        self.below.level().saturating_add(1)
     }
 
     fn f(&self, stop: usize, row: usize, column: usize) -> Result<L::Number, LineFault> {
@@ -122,24 +105,22 @@ impl<L: Line> Line for Aims<L> {
     }
 
     fn g(&self, stop: usize, row: usize, column: usize) -> Result<L::Number, LineFault> {
-        let low = row.min(column);
-        let high = row.max(column);
-        let Some(last) = constant(self.stops(), self.states(), self.inputs(), stop) else {
-            return self.below.g(stop, row, column);
-        };
-        if high != last {
+        let last = row.max(column);
+        if constant(self.stops(), self.states(), self.inputs(), stop) != Some(last) {
             return self.below.g(stop, row, column);
         }
-        let mark = Mark {
-            level: self.level(),
+        let border = Border {
+            over: self,
             stop,
-            row: low,
-            column: high,
+            first: last - self.states(),
+            last,
+            mark: Mark::above(self.level(), stop, row, column),
         };
+        let low = row.min(column);
         if low == last {
-            self.corner(stop, last, mark)
+            border.corner()
         } else {
-            self.column(stop, low, last, mark)
+            border.column(low)
         }
     }
 }

@@ -5,5 +5,5 @@
 #[derive(Drop)]
 pub struct Aims<L> {
     pub(super) below: L,
-    pub(super) aims: [i16; 100],
+    pub(super) aims: [[i16; 4]; 25],
 }

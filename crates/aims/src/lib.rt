@@ -1,7 +1,6 @@
 #![tactic(auto)]
 
 // A layer over any line by which the cost is taken at the lateness less an aim.
-mod constant;
 mod entries;
 pub mod faults;
 pub mod layer;

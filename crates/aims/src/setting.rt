@@ -1,11 +1,13 @@
 // Aims are laid and set.
-ghost use Rattle.std.specs.Prelude.{◌≡◌, ℕ, pos, MatchResult};
+ghost use Rattle.std.specs.Prelude.{◌≡◌, ℕ, ◌<◌, length, pos, MatchResult, slice_set};
 ghost use Rattle.aims.specs.Aimed.{aim, aim_fault, aims_line, Settable, Replaced};
 ghost use Rattle.aims.specs.Shifting.{Shifts};
 
 use super::faults::AimFault;
 use super::layer::Aims;
 use lines::line::Line;
+use std::error::Error;
+use std::fmt;
 
 impl AimFault {
     // The number under which the refusal is reported.
@@ -16,6 +18,27 @@ impl AimFault {
     }
 }
 
+impl fmt::Display for AimFault {
+    fn fmt<W: fmt::Write>(&self, f: &mut fmt::Formatter<W>) -> fmt::Result {
+        let number = self.number();
+        write!(
+            f,
+            "refused {number}: no such stop or state, or a value beyond 999 in size"
+        )
+    }
+}
+
+impl Error for AimFault {}
+
+// Puts an aim in its place among those of a stop.
+fn put(aims: &mut [i16; 4], state: usize, aim: i16)
+    requires { state < 4 }
+    ensures four { length aims.old ≡ 4 }
+    ensures put { aims.new ≡ slice_set aims.old state aim }
+{
+    aims[state] = aim;
+}
+
 impl<L: Line> Aims<L> {
     // Aims over a line, all of them 0.
     pub fn over(below: L) -> Aims<L>
@@ -24,7 +47,7 @@ impl<L: Line> Aims<L> {
     {
         Aims {
             below,
-            aims: [0; 100],
+            aims: [[0; 4]; 25],
         }
     }
 
@@ -42,24 +65,22 @@ impl<L: Line> Aims<L> {
         if value < -999 || value > 999 {
             return Err(AimFault::BadAim);
         }
-        self.aims[stop * 4 + state] = value as i16;
+        put(&mut self.aims[stop], state, value as i16);
         Ok(())
     }
 
     // In exact numbers the cost at each stop is that of the line below, taken at the lateness less the aims.
-    pub fn cost_is_shifted(&self) -> u8
+    pub fn cost_is_shifted(&self)
         ensures { Shifts L.Number.Number.good L.Number.Number.value (aims_line L.Number.Number.value L.Number.Kind.find (aim self.now.aims) (L.Line.meaning self.now.below)) (L.Line.meaning self.now.below) (aim self.now.aims) }
-    {
-        0
-    }
+    {}
 
     // The aim of a state at a stop, 0 where none may be set.
     pub fn aim(&self, stop: usize, state: usize) -> i64
         ensures { result ≡ aim self.now.aims stop state }
     {
-        if stop > 24 || state >= 4 {
-            return 0;
-        }
-        i64::from(self.aims[stop * 4 + state])
+        self.aims
+            .get(stop)
+            .and_then(|aims| aims.get(state))
+            .map_or(0, |aim| i64::from(*aim))
     }
 }

@@ -1,4 +1,5 @@
 // Worked examples.
+use super::faults::AimFault;
 use super::layer::Aims;
 use lines::faults::LineFault;
 use lines::line::Line;
@@ -20,20 +21,25 @@ fn whole(entry: Result<Fraction, LineFault>) -> i64 {
 #[test]
 fn aim_of_two(rt: HostRuntime) -> Result<(), Fail> {
     let numbers = [1, 1, 1, 1, 1, 0, 1, 2, 3, 4, 5, 6, 1, 0, 0].to_vec(rt.alloc())?;
-    match Table::open(numbers) {
-        Ok(table) => {
-            let mut aims = Aims::over(table);
-            assert!(rt; aims.set(0, 0, 2).is_ok());
-            assert!(rt; aims.set(2, 0, 2).is_err());
-            assert!(rt; aims.set(0, 1, 2).is_err());
-            assert!(rt; aims.set(0, 0, 1000).is_err());
-            assert_eq!(rt; whole(aims.g(0, 0, 2)), -1);
-            assert_eq!(rt; whole(aims.g(0, 2, 1)), -3);
-            assert_eq!(rt; whole(aims.g(0, 2, 2)), 2);
-            assert_eq!(rt; whole(aims.g(0, 1, 1)), 4);
-            assert_eq!(rt; aims.level(), 1);
-            Ok(())
-        }
-        Err(_) => Err(Fail::new("the table is good")),
-    }
+    let mut aims = Aims::over(Table::open(numbers)?);
+    assert!(rt; aims.set(0, 0, 2).is_ok());
+    assert!(rt; aims.set(2, 0, 2).is_err());
+    assert!(rt; aims.set(0, 1, 2).is_err());
+    assert!(rt; aims.set(0, 0, 1000).is_err());
+    assert_eq!(rt; whole(aims.g(0, 0, 2)), -1);
+    assert_eq!(rt; whole(aims.g(0, 2, 1)), -3);
+    assert_eq!(rt; whole(aims.g(0, 2, 2)), 2);
+    assert_eq!(rt; whole(aims.g(0, 1, 1)), 4);
+    assert_eq!(rt; aims.level(), 1);
+    Ok(())
+}
+
+#[test]
+fn sentence(rt: HostRuntime) -> Result<(), Fail> {
+    let fault = AimFault::BadAim;
+    assert_eq!(rt;
+        format!(in rt.alloc(); "{fault}")?.as_str(),
+        "refused 6: no such stop or state, or a value beyond 999 in size"
+    );
+    Ok(())
 }

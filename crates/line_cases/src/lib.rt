@@ -11,7 +11,7 @@ ghost use Rattle.lines.specs.FractionsLemmas.{fraction_finds};
 ghost use Rattle.lines.specs.WholeLines.{whole_lawful, whole_levelled};
 
 use lines::faults::{LineFault, Mark};
-use lines::line::Line;
+use lines::line::{Line, constant};
 use lines::worked::whole_at;
 use numbers::Fraction;
 
@@ -31,14 +31,8 @@ impl Plain {
     fn f_number(&self, stop: usize, row: usize, column: usize) -> i64
         ensures { result ≡ whole_F self.now.stops self.now.states self.now.inputs zeros stop row column }
     {
-        if stop >= self.stops || row != self.states || column < self.inputs {
-            return 0;
-        }
-        if column - self.inputs == self.states {
-            1
-        } else {
-            0
-        }
+        let last = constant(self.stops, self.states, self.inputs, stop);
+        i64::from(stop < self.stops && row == self.states && last == Some(column))
     }
 }
 
@@ -68,22 +62,12 @@ impl Line for Plain {
     }
 
     fn f(&self, stop: usize, row: usize, column: usize) -> Result<Fraction, LineFault> {
-        let mark = Mark {
-            level: 0,
-            stop,
-            row,
-            column,
-        };
+        let mark = Mark::at(0, stop, row, column);
         Ok(whole_at(self.f_number(stop, row, column), mark)?)
     }
 
     fn g(&self, stop: usize, row: usize, column: usize) -> Result<Fraction, LineFault> {
-        let mark = Mark {
-            level: 0,
-            stop,
-            row: row.min(column),
-            column: row.max(column),
-        };
+        let mark = Mark::above(0, stop, row, column);
         Ok(whole_at(0, mark)?)
     }
 }

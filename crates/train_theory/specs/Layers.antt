@@ -1,6 +1,6 @@
 -- Layers over a line, and what they make of a cost. Assumes nothing.
 --
---   Layer                         aims, from a list of them, or a book of trains, whatever its sizes
+--   Layer                         aims, from a list of them for each stop, or a book of trains, whatever its sizes
 --   laid value find l b           the line with the layer l over the line b
 --   piled value find ls b         the line with the layers ls over b, the lowest first
 --   Cost D                        a cost at a stop, as a function of the adjustments and the lateness
@@ -18,7 +18,7 @@ use Rattle.trains.specs.Adding.{book_cost}
 use Rattle.trains.specs.Trained.{counting, trains_line}
 
 pub data Layer : Type 0 where
-  aims : List ℤ → Layer
+  aims : List (List ℤ) → Layer
   trains : Register → Layer
 
 module _ {A : Type 0} {D : ℕ} (value : A → Exact D) (find : ℤ → ℤ → ℕ → Option A) where

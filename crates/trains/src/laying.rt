@@ -3,14 +3,17 @@ ghost use Rattle.std.specs.Prelude.{◌≡◌, MatchResult};
 ghost use Rattle.feeds.specs.Held.{held};
 ghost use Rattle.aims.specs.Aimed.{aim, aims_line};
 ghost use Rattle.trains.specs.Adding.{Adds, ShiftsAndAdds};
-ghost use Rattle.trains.specs.Trained.{Fits, fit_fault, trains_line};
+ghost use Rattle.trains.specs.Trained.{Fits, fit_fault, same_sizes, trains_line};
 ghost use Rattle.trains.specs.Weights.{SumsFit};
 
 use super::faults::FitFault;
 use super::layer::Trains;
 use aims::layer::Aims;
+use feed_types::types::Sizes;
 use feeds::book::Book;
 use lines::line::Line;
+use std::error::Error;
+use std::fmt;
 
 impl FitFault {
     // The number under which the refusal is reported.
@@ -21,20 +24,36 @@ impl FitFault {
     }
 }
 
+impl fmt::Display for FitFault {
+    fn fmt<W: fmt::Write>(&self, f: &mut fmt::Formatter<W>) -> fmt::Result {
+        let number = self.number();
+        write!(
+            f,
+            "refused {number}: the sizes of the feeds are not those of the line"
+        )
+    }
+}
+
+impl Error for FitFault {}
+
+// Whether sizes are those of a line.
+pub(super) fn same_sizes<L: Line>(sizes: Sizes, line: &L) -> bool
+    ensures { result ≡ same_sizes sizes (L.Line.meaning line.now) }
+{
+    usize::from(sizes.stops) == line.stops()
+        && usize::from(sizes.states) == line.states()
+        && usize::from(sizes.inputs) == line.inputs()
+}
+
 // Whether the trains of a book would count on a line.
 pub fn fits<L: Line>(line: &L, book: &Book) -> Result<(), FitFault>
     ensures { MatchResult result (λ _. Fits (held book.now).sizes (L.Line.meaning line.now)) (λ _. Fits (held book.now).sizes (L.Line.meaning line.now) → ⊥) }
 {
-    let Some(sizes) = book.sizes() else {
-        return Ok(());
-    };
-    if sizes.stops as usize != line.stops()
-        || sizes.states as usize != line.states()
-        || sizes.inputs as usize != line.inputs()
-    {
-        return Err(FitFault::OtherSizes);
+    if book.sizes().is_none_or(|sizes| same_sizes(sizes, line)) {
+        Ok(())
+    } else {
+        Err(FitFault::OtherSizes)
     }
-    Ok(())
 }
 
 impl<L: Line> Trains<L> {

@@ -1,4 +1,5 @@
 // Worked examples.
+use super::faults::FitFault;
 use super::layer::Trains;
 use super::laying::{fits, lay};
 use aims::layer::Aims;
@@ -30,20 +31,13 @@ fn one_train_in_both_feeds(rt: HostRuntime) -> Result<(), Fail> {
     let second = book.read(FEED);
     assert!(rt; first.is_ok() && second.is_ok());
     let numbers = [1, 1, 1, 1, 1, 0, 0, 0, 0, 0, 0, 0, 0, 0, 0].to_vec(rt.alloc())?;
-    match Table::open(numbers) {
-        Ok(table) => match lay(Aims::over(table), book) {
-            Ok(line) => {
-                assert_eq!(rt; whole(line.g(0, 1, 1)), 3);
-                assert_eq!(rt; whole(line.g(0, 2, 1)), -6);
-                assert_eq!(rt; whole(line.g(0, 2, 2)), 12);
-                assert_eq!(rt; whole(line.g(1, 0, 0)), 0);
-                assert_eq!(rt; line.level(), 2);
-                Ok(())
-            }
-            Err(_) => Err(Fail::new("the book fits")),
-        },
-        Err(_) => Err(Fail::new("the table is good")),
-    }
+    let line = lay(Aims::over(Table::open(numbers)?), book)?;
+    assert_eq!(rt; whole(line.g(0, 1, 1)), 3);
+    assert_eq!(rt; whole(line.g(0, 2, 1)), -6);
+    assert_eq!(rt; whole(line.g(0, 2, 2)), 12);
+    assert_eq!(rt; whole(line.g(1, 0, 0)), 0);
+    assert_eq!(rt; line.level(), 2);
+    Ok(())
 }
 
 #[test]
@@ -54,13 +48,19 @@ fn other_sizes(rt: HostRuntime) -> Result<(), Fail> {
         2, 1, 1, 1, 1, 0, 0, 0, 0, 0, 0, 0, 1, 1, 0, 0, 0, 0, 0, 0, 0, 0, 0, 0,
     ]
     .to_vec(rt.alloc())?;
-    match Table::open(numbers) {
-        Ok(table) => {
-            assert!(rt; fits(&table, &book).is_err());
-            let line = Trains::over(table, book);
-            assert_eq!(rt; whole(line.g(0, 1, 1)), 0);
-            Ok(())
-        }
-        Err(_) => Err(Fail::new("the table is good")),
-    }
+    let table = Table::open(numbers)?;
+    assert!(rt; fits(&table, &book).is_err());
+    let line = Trains::over(table, book);
+    assert_eq!(rt; whole(line.g(0, 1, 1)), 0);
+    Ok(())
+}
+
+#[test]
+fn sentence(rt: HostRuntime) -> Result<(), Fail> {
+    let fault = FitFault::OtherSizes;
+    assert_eq!(rt;
+        format!(in rt.alloc(); "{fault}")?.as_str(),
+        "refused 7: the sizes of the feeds are not those of the line"
+    );
+    Ok(())
 }

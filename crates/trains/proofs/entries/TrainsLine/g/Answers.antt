@@ -1,12 +1,22 @@
-use Rattle.std.proofs.Common.{w64, SFits, rules}
-use Rattle.std.proofs.lemmas.Int.{to_z-of_z}
+use Rattle.std.proofs.Common.{◌≡◌, suc, ◌-◌, min, max, ◌&&◌, T, ltb, rules}
 use Rattle.feeds.specs.Held.{held}
+use Rattle.lines.specs.Laws.{place_mark}
+use Rattle.lines.specs.Meaning.{order}
+use Rattle.aims.specs.Aimed.{raised}
+use Rattle.trains.specs.Trained.{weighs}
+use Rattle.trains.specs.Weights.{weighed}
+use Rattle.trains.proofs.Factors.{word}
 use Rattle.trains.proofs.Placed.{placed}
 use Rattle.trains.proofs.entries.TrainsLine.g.Goals as goal
 
 pub returns-in-Some : goal.returns-in-Some
 returns-in-Some g c =
-    let f : SFits w64 c.in-Some.sum = search rules in
-    placed g.L.Number.Number.value g.L.Number.Kind.find (held c.args.self.now.book) (g.L.Line.meaning c.args.self.now.below) c.args.stop c.args.row c.args.column
-    c.min-low.result c.max-high.result c.level.result c.in_ok-entry.entry c.in-Some.sum _ c.raise.result
-    c.min-low.ensures c.max-high.ensures c.level.ensures c.in_ok-entry.ensures c.in-Some.ensures.0 c.in-Some.ensures.1 (to_z-of_z w64 c.in-Some.sum f) c.raise.ensures
+    let r = held c.args.self.now.book in
+    let b = g.L.Line.meaning c.args.self.now.below in
+    let n = c.args.stop in
+    let low = min c.args.row c.args.column in
+    let high = max c.args.row c.args.column in
+    let mark : c.above.result ≡ place_mark (raised b.level) n low high = search rules in
+    let inside : T (weighs r.sizes b && ltb high (order b n)) = search rules in
+    let sum : word c.in-Some.sum ≡ weighed n (order b n - suc b.nx) b.nx r.trains low high = search rules in
+    placed g.L.Number.Number.value g.L.Number.Kind.find r b n c.args.row c.args.column c.above.result c.in_ok-entry.entry (word c.in-Some.sum) c.raise.result mark c.in_ok-entry.ensures inside sum c.raise.ensures
