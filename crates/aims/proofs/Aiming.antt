@@ -1,28 +1,28 @@
 -- Aims in their list, and entries worked one after the other. Assumes nothing.
-use Rattle.std.proofs.Common.{◌≡◌, ℕ, zero, suc, ◌+◌, ◌<◌, ◌≤◌, ◌&&◌, ltb, List, [], get_or, replicate, ℤ, pos, IsErrAnd, Ok, Err, Result, sym, refl, ap, ◌∙◌, subst, arith, ltb→lt}
+use Rattle.std.proofs.Common.{◌≡◌, ℕ, zero, suc, ◌<◌, ◌≤◌, List, [], get_or, replicate, ℤ, pos, IsErrAnd, Ok, Err, Result, sym, ap, ◌∙◌, subst, arith}
 use native.Mathlib.Decide.{dec_lt, ℕ_discrete}
 use Rattle.lines.specs.declared.faults.LineFault.{LineFault}
 use Rattle.std.proofs.lemmas.List.{get_or_past, get_or-replicate, length-replicate}
 use Rattle.lines.specs.Meaning.{Entry, holds, marked, Answer}
 use Rattle.lines.specs.Whole.{cell}
-use Rattle.algebra.proofs.Booleans.{and_split}
-use Rattle.lines.specs.WholeLines.{unless, either}
+use Rattle.std.proofs.lemmas.Bool.Decides.{nat_tests}
+use Rattle.std.proofs.lemmas.Grind.{common_steps}
 use Rattle.lines.specs.declared.faults.Mark.{Mark}
 use Rattle.aims.specs.Aimed.{aim}
 use Rattle.aims.specs.Entries.{after}
 
 -- past the states there is no aim
 pub aim_states : (ts : List (List ℤ)) (n k : ℕ) → 4 ≤ k → aim ts n k ≡ pos 0
-aim_states ts n k h = unless (ltb n 25 && ltb k 4) (cell (get_or ts n []) k) (pos 0) (λ t. let l = ltb→lt k 4 (and_split (ltb n 25) (ltb k 4) t).1 in omega arith)
+aim_states ts n k h = grind (arith, nat_tests)
 
 pub after_holds : {A : Type 0} (x : Entry A) (f : A → Entry A) (k : A) (r : Entry A) → x ≡ holds k → f k ≡ r → after x f ≡ r
 after_holds {A} x f k r h p = ap (λ (y : Entry A). after y f) h ∙ p
 
 pub no_aims : (n k : ℕ) → aim (replicate 25 (replicate 4 (pos 0))) n k ≡ pos 0
-no_aims n k = either (λ (z : ℤ). z ≡ pos 0) (ltb n 25 && ltb k 4) (cell (get_or (replicate 25 (replicate 4 (pos 0))) n []) k) (pos 0) (row n) refl
+no_aims n k = let r = row n in grind (arith, nat_tests)
   where
     zero_cell : (m i : ℕ) → cell (replicate m (pos 0)) i ≡ pos 0
-    zero_cell m i = elim (dec_lt i m) [ yes l ↦ get_or-replicate m i (pos 0) (pos 0) l | no h ↦ get_or_past (replicate m (pos 0)) i (pos 0) (omega (arith, length-replicate m (pos 0))) ]
+    zero_cell m i = grind (arith, common_steps)
 
     row : (n : ℕ) → cell (get_or (replicate 25 (replicate 4 (pos 0))) n []) k ≡ pos 0
     row n = elim (dec_lt n 25) [

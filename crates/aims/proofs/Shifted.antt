@@ -1,7 +1,6 @@
 -- The line with aims has the costs of the line below, taken at the lateness less the aims. Assumes nothing.
-use Rattle.std.proofs.Common.{◌≡◌, ℕ, zero, suc, ◌+◌, ◌-◌, ◌<◌, ◌≤◌, min, max, cond, T, eqb, ltb, ℤ, pos, Option, sym, refl, ap, ◌∙◌, subst, ap₂, arith, eqb→eq, ltb→lt, lt→ltb}
+use Rattle.std.proofs.Common.{◌≡◌, ℕ, zero, suc, ◌+◌, ◌-◌, ◌<◌, ◌≤◌, min, max, eqb, ℤ, pos, Option, sym, refl, ap, ◌∙◌, subst, ap₂, arith}
 use native.Mathlib.Decide.{dec_lt}
-use lib.Dec.{eqb_refl}
 use Rattle.algebra.specs.Exact.{Exact, Radicand, whole_e, zero_e, one_e, add_e, neg_e, mul_e}
 use Rattle.algebra.specs.Field.{OrderedField}
 use Rattle.algebra.proofs.ExactField.{exact_field}
@@ -15,6 +14,7 @@ use Rattle.lines.specs.Laws.{Lawful, place_mark}
 use Rattle.lines.specs.Meaning.{Entry, holds, marked, Meaning, order, InG, told}
 use Rattle.lines.specs.declared.faults.Mark.{Mark}
 use Rattle.lines.specs.Finding.{entry_cases, held, not_held}
+use Rattle.std.proofs.lemmas.Bool.Decides.{nat_tests}
 use Rattle.lines.specs.WholeLines.{when, unless, whole_zero}
 use Rattle.aims.specs.Aimed.{column, corner, bordered, aims_line, raised, states_aimed}
 use Rattle.aims.specs.Entries.{after, less, times_whole}
@@ -112,8 +112,7 @@ module _ {A : Type 0} {D : ℕ} (good : Radicand D) (value : A → Exact D) (fin
     at_border a h =
         let hi : max a w ≡ w = omega arith in
         let lo : min a w ≡ a = omega arith in
-        when (eqb (suc (max a w)) (order b n)) (bordered value find t b (own (min a w) (max a w)) n (min a w) (max a w)) (b.G n a w)
-        (subst (λ (k : ℕ). T (eqb (suc (max a w)) k)) (ap suc hi ∙ sym size) (eqb_refl (suc (max a w))))
+        when (eqb (suc (max a w)) (order b n)) (bordered value find t b (own (min a w) (max a w)) n (min a w) (max a w)) (b.G n a w) (grind (arith, nat_tests))
         ∙ ap₂ (λ (l g : ℕ). bordered value find t b (own l g) n l g) lo hi
 
     offset : w - b.nx ≡ first
@@ -122,17 +121,17 @@ module _ {A : Type 0} {D : ℕ} (good : Radicand D) (value : A → Exact D) (fin
     at_column : (a : ℕ) → a < w → here.G n a w ≡ column value find t b (own a w) n a w first count
     at_column a h =
         at_border a (omega arith)
-        ∙ unless (eqb a w) (corner value find t b (own a w) n w (w - b.nx) count) (column value find t b (own a w) n a w (w - b.nx) count) (λ e. let q = eqb→eq a w e in omega arith)
+        ∙ unless (eqb a w) (corner value find t b (own a w) n w (w - b.nx) count) (column value find t b (own a w) n a w (w - b.nx) count) (grind (arith, nat_tests))
         ∙ ap (λ (f : ℕ). column value find t b (own a w) n a w f count) offset
 
     at_corner : here.G n w w ≡ corner value find t b (own w w) n w first count
     at_corner =
         at_border w (omega arith)
-        ∙ when (eqb w w) (corner value find t b (own w w) n w (w - b.nx) count) (column value find t b (own w w) n w w (w - b.nx) count) (eqb_refl w)
+        ∙ when (eqb w w) (corner value find t b (own w w) n w (w - b.nx) count) (column value find t b (own w w) n w w (w - b.nx) count) (grind (arith, nat_tests))
         ∙ ap (λ (f : ℕ). corner value find t b (own w w) n w f count) offset
 
     at_inner : (a c : ℕ) → a < w → c < w → here.G n a c ≡ b.G n a c
-    at_inner a c h l = unless (eqb (suc (max a c)) (order b n)) _ (b.G n a c) (λ e. let q = eqb→eq (suc (max a c)) (order b n) e in omega arith)
+    at_inner a c h l = grind (arith, nat_tests)
 
     module _ (four : (k : ℕ) → 4 ≤ k → t n k ≡ pos 0) (lawful : Lawful value b) (u x : ℕ → Exact D) (all : HeldStop here n) where
       abbrev s : ℕ → Exact D
@@ -209,10 +208,9 @@ module _ {A : Type 0} {D : ℕ} (good : Radicand D) (value : A → Exact D) (fin
   aims_shift four lawful = record {
     stage = λ n u x h all. let e : suc (b.nu + b.nx) ≡ b.nu + suc b.nx = omega arith in
         subst (λ (w : ℕ). form K w (λ a c. T_of ((aims_line value find t b).G n a c)) (join b.nu u (join b.nx x (λ _. one_e D))) ≡ form K w (λ a c. T_of (b.G n a c)) (join b.nu u (join b.nx (less_aims D t n x) (λ _. one_e D)))) e
-        (form_at n (b.nu + b.nx) b.nu (when (ltb n b.end) (b.nu + suc b.nx) _ (lt→ltb n b.end h) ∙ sym e) refl (four n) lawful u x all);
+        (form_at n (b.nu + b.nx) b.nu (grind (arith, nat_tests)) refl (four n) lawful u x all);
     final = λ x all.
         form_at b.end b.nx 0
-        (unless (ltb b.end b.end) _ (cond (eqb b.end b.end) (suc b.nx) 0) (λ h. let q = ltb→lt b.end b.end h in omega arith) ∙ when (eqb b.end b.end) (suc b.nx) 0 (eqb_refl b.end))
-        (omega arith) (four b.end) lawful (λ _. zero_e D) x all;
+        (grind (arith, nat_tests)) (omega arith) (four b.end) lawful (λ _. zero_e D) x all;
     travel = λ n u x k. refl;
   }

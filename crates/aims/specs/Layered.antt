@@ -1,7 +1,8 @@
 -- The line with aims is lawful, and its marks are its own or those of the line below. Assumes nothing.
 use Rattle.std.specs.Prelude.{◌≡◌, ℕ, zero, suc, ◌+◌, ◌-◌, min, max, Bool, true, false, cond, ◌⊎◌, ℤ, Option, ◌==◌, refl}
-use Rattle.std.proofs.Common.{sym, ◌∙◌, ap, ap₂, subst, inl, inr, arith, eqb→eq}
+use Rattle.std.proofs.Common.{sym, ◌∙◌, ap, ap₂, subst, inl, inr, arith}
 use Rattle.std.proofs.Math.Nat as NatL
+use Rattle.std.proofs.lemmas.Bool.Decides.{nat_tests}
 use Rattle.algebra.specs.Exact.{Exact, whole_e, zero_e, add_e, neg_e, mul_e}
 use Rattle.lines.specs.Kinds.{entry_of}
 use Rattle.lines.specs.Laws.{Means, Lawful, Levelled, layer, Marks, in_F, in_G, G_mark, place_mark}
@@ -63,7 +64,7 @@ module _ {A : Type 0} {D : ℕ} (value : A → Exact D) (find : ℤ → ℤ → 
   aims_lawful l = record {
     outside_F = l.outside_F;
     outside_G = λ n a c o. subst (λ (x : Entry A). Means value x (zero_e D))
-        (sym (unless (suc (max a c) == order b n) _ (b.G n a c) (λ h. let q = eqb→eq (suc (max a c)) (order b n) h in o (omega arith, omega arith)))) (l.outside_G n a c o);
+        (sym (unless (suc (max a c) == order b n) _ (b.G n a c) (λ h. o (grind (arith, nat_tests), grind (arith, nat_tests))))) (l.outside_G n a c o);
     last_row = l.last_row;
     corner = l.corner;
     mirror = λ n a c.

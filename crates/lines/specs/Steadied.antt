@@ -1,19 +1,19 @@
 -- A steady line is a lawful line, and has no mark where its numbers are small. Assumes nothing.
-use Rattle.std.specs.Prelude.{◌≡◌, ℕ, suc, ◌+◌, ◌<◌, ◌≤◌, Bool, true, false, cond, ◌&&◌, T, List, take, drop, ℤ, pos, Option, ◌==◌, nat_lt, unsigned_abs, refl}
-use Rattle.std.proofs.Common.{sym, ◌∙◌, subst, arith, eqb→eq}
+use Rattle.std.specs.Prelude.{◌≡◌, ℕ, ◌+◌, ◌≤◌, Bool, true, false, cond, ◌&&◌, T, List, take, drop, ℤ, pos, Option, ◌==◌, unsigned_abs, refl}
+use Rattle.std.proofs.Common.{sym, ◌∙◌, subst, arith}
 use Rattle.std.proofs.Math.Decide.{dec_lt}
-use Rattle.std.proofs.Math.Dec.{eqb_refl}
+use Rattle.std.proofs.lemmas.Bool.Decides.{nat_tests}
 use Rattle.std.proofs.lemmas.List.{get_or_past, get_or-take, get_or-drop, length-take}
 use Rattle.algebra.specs.Exact.{Exact, whole_e, zero_e}
 use Rattle.numbers.specs.Answers.{Held}
 use Rattle.lines.specs.declared.faults.Mark.{Mark}
 use Rattle.lines.specs.Kinds.{Finds}
 use Rattle.lines.specs.Laws.{Means, Lawful, Own, Levelled, bottom, Unmarked, in_F, in_G}
-use Rattle.lines.specs.Meaning.{Entry, holds, marked, Meaning, order_of, InG}
+use Rattle.lines.specs.Meaning.{Entry, holds, marked, Meaning, InG}
 use Rattle.lines.specs.Steadies.{steady_F, steady_G, steady_line, weighted}
 use Rattle.lines.specs.Tables.{upper}
-use Rattle.lines.specs.Whole.{Small, SmallFrom, cell, whole_line}
-use Rattle.lines.specs.WholeLines.{either, when, unless, all_three, whole_lawful, whole_own, whole_unmarked}
+use Rattle.lines.specs.Whole.{Small, SmallFrom, whole_line}
+use Rattle.lines.specs.WholeLines.{unless, whole_lawful, whole_own, whole_unmarked}
 
 module _ {A : Type 0} {D : ℕ} (value : A → Exact D) (w : A) (m : Meaning A) where
   abbrev place : ℕ → ℕ → ℕ → Bool
@@ -32,16 +32,7 @@ module _ {A : Type 0} {D : ℕ} (value : A → Exact D) (w : A) (m : Meaning A) 
 
   -- the lateness at the last stop has a place there
   inside : (n a c : ℕ) → T (place n a c) → InG m n a c
-  inside n a c t =
-      let s = all_three (n == m.end) (a == 0) (c == 0) t in
-      let o = last n (eqb→eq n m.end s.0.0) in
-      let x = eqb→eq a 0 s.0.1 in
-      let y = eqb→eq c 0 s.1 in
-      (omega arith, omega arith)
-    where
-      last : (n : ℕ) → n ≡ m.end → 0 < order_of m.end m.nx m.nu n
-      last n e = either (λ (k : ℕ). 0 < k) (nat_lt n m.end) (m.nu + suc m.nx) (cond (n == m.end) (suc m.nx) 0) (omega arith)
-          (subst (λ (k : ℕ). 0 < k) (sym (when (n == m.end) (suc m.nx) 0 (subst (λ (k : ℕ). T (n == k)) e (eqb_refl n)))) (omega arith))
+  inside n a c t = (grind (arith, nat_tests), grind (arith, nat_tests))
 
   pub weighted_lawful : Lawful value m → Lawful value (weighted w m)
   weighted_lawful l = record {
@@ -77,7 +68,7 @@ module _ {A : Type 0} {D : ℕ} (value : A → Exact D) (find : ℤ → ℤ → 
   steady_unmarked f g =
       weighted_unmarked value w below
       (whole_unmarked value find finds wholes end 1 1 (steady_F fs) (steady_G end gs) (λ n k c. f c (omega arith))
-      (λ n a c. either Small (nat_lt n end) (cell gs (upper 3 a c)) (pos 0) (g (upper 3 a c) (omega arith)) (omega arith)))
+      (λ n a c. let p = g (upper 3 a c) (omega arith) in grind (arith, nat_tests)))
 
 -- a part of a list of small numbers
 pub part_small : (j i n : ℕ) (zs : List ℤ) → j ≤ i → SmallFrom j zs → SmallFrom 0 (take n (drop i zs))

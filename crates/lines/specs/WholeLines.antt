@@ -1,9 +1,9 @@
 -- A line of whole numbers that are small is lawful, and marks nothing of another level. Assumes nothing.
 use Rattle.std.specs.Prelude.{◌≡◌, ℕ, zero, suc, ◌+◌, ◌≤◌, min, max, Bool, true, false, cond, ◌&&◌, T, ℤ, pos, Some, None, Option, ◌≢◌, nat_lt, unsigned_abs, refl}
-use Rattle.std.proofs.Common.{sym, ◌∙◌, ap, ap₂, subst, arith, ltb→lt, lt→ltb}
+use Rattle.std.proofs.Common.{sym, ◌∙◌, ap, ap₂, subst, arith}
 use Rattle.std.proofs.Math.Nat as NatL
+use Rattle.std.proofs.lemmas.Bool.Decides.{nat_tests}
 use Rattle.algebra.specs.Exact.{Exact, exact, whole_e, zero_e, one_e}
-use Rattle.algebra.proofs.Booleans.{and_split, and_join}
 use Rattle.algebra.proofs.Triples.{exact_zero}
 use Rattle.numbers.specs.Answers.{Held}
 use Rattle.lines.specs.declared.faults.Mark.{Mark}
@@ -30,16 +30,6 @@ when false x y t = elim t [ ]
 pub unless : {X : Type 0} (b : Bool) (x y : X) → ¬ T b → cond b x y ≡ y
 unless true x y n = absurd (n tt)
 unless false x y n = refl
-
-pub either : {X : Type 0} (P : X → Type 0) (b : Bool) (x y : X) → P x → P y → P (cond b x y)
-either P true x y p q = p
-either P false x y p q = q
-
-pub both : (b c d : Bool) → T b → T c → T d → T (b && c && d)
-both b c d p q r = and_join (b && c) d (and_join b c p q) r
-
-pub all_three : (b c d : Bool) → T (b && c && d) → (T b × T c) × T d
-all_three b c d t = let s = and_split (b && c) d t in (and_split b c s.0, s.1)
 
 -- ---- the mark of an entry is the one it was given
 kept_mark : {A : Type 0} (m e : Mark) (o : Option A) → kept m o ≡ marked e → e ≡ m
@@ -68,20 +58,16 @@ module _ {A : Type 0} {D : ℕ} (value : A → Exact D) (find : ℤ → ℤ → 
   pub whole_lawful : Lawful value here
   whole_lawful = record {
     outside_F = λ n k c o. means (place_mark 0 n k c) (whole_F end nx nu f n k c) (pos 0) (zero_e D)
-        (unless (test_F n k c) (inner n k c) (pos 0) (λ t. let s = all_three (nat_lt n end) (nat_lt k (suc nx)) (nat_lt c (nu + suc nx)) t in o (ltb→lt n end s.0.0, ltb→lt k (suc nx) s.0.1, ltb→lt c (nu + suc nx) s.1)))
+        (grind (arith, nat_tests))
         (omega arith) (whole_zero D);
     outside_G = λ n a c o. means (place_mark 0 n (min a c) (max a c)) (whole_G end nx nu g n a c) (pos 0) (zero_e D)
-        (unless (nat_lt (max a c) (order_of end nx nu n)) (g n (min a c) (max a c)) (pos 0) (λ t. let h = ltb→lt (max a c) (order_of end nx nu n) t in o (omega arith, omega arith)))
+        (grind (arith, nat_tests))
         (omega arith) (whole_zero D);
     last_row = λ n c h i. means (place_mark 0 n nx c) (whole_F end nx nu f n nx c) (pos 0) (zero_e D)
-        (when (test_F n nx c) (inner n nx c) (pos 0) (both (nat_lt n end) (nat_lt nx (suc nx)) (nat_lt c (nu + suc nx)) (lt→ltb n end h) (lt→ltb nx (suc nx) (omega arith)) (lt→ltb c (nu + suc nx) (omega arith)))
-        ∙ unless (nat_lt nx nx) (f n nx c) (cond (nat_lt c (nu + nx)) (pos 0) (pos 1)) (λ t. let z = ltb→lt nx nx t in omega arith)
-        ∙ when (nat_lt c (nu + nx)) (pos 0) (pos 1) (lt→ltb c (nu + nx) i))
+        (grind (arith, nat_tests))
         (omega arith) (whole_zero D);
     corner = λ n h. means (place_mark 0 n nx (nu + nx)) (whole_F end nx nu f n nx (nu + nx)) (pos 1) (one_e D)
-        (when (test_F n nx (nu + nx)) (inner n nx (nu + nx)) (pos 0) (both (nat_lt n end) (nat_lt nx (suc nx)) (nat_lt (nu + nx) (nu + suc nx)) (lt→ltb n end h) (lt→ltb nx (suc nx) (omega arith)) (lt→ltb (nu + nx) (nu + suc nx) (omega arith)))
-        ∙ unless (nat_lt nx nx) (f n nx (nu + nx)) (cond (nat_lt (nu + nx) (nu + nx)) (pos 0) (pos 1)) (λ t. let z = ltb→lt nx nx t in omega arith)
-        ∙ unless (nat_lt (nu + nx) (nu + nx)) (pos 0) (pos 1) (λ t. let z = ltb→lt (nu + nx) (nu + nx) t in omega arith))
+        (grind (arith, nat_tests))
         (omega arith) (whole_one D);
     mirror = λ n a c. ap₂ (λ (lo hi : ℕ). entry_of find (place_mark 0 n lo hi) (whole_e D (cond (nat_lt hi (order_of end nx nu n)) (g n lo hi) (pos 0)))) (NatL.min_comm a c) (NatL.max_comm a c);
   }
@@ -104,9 +90,6 @@ module _ {A : Type 0} {D : ℕ} (value : A → Exact D) (find : ℤ → ℤ → 
 
   pub whole_unmarked : ((n k c : ℕ) → Small (f n k c)) → ((n a c : ℕ) → Small (g n a c)) → Unmarked here
   whole_unmarked small_f small_g e (in_F n k c h) =
-      held_unmarked (place_mark 0 n k c) e (whole_F end nx nu f n k c)
-      (either Small (test_F n k c) (inner n k c) (pos 0)
-      (either Small (nat_lt k nx) (f n k c) (cond (nat_lt c (nu + nx)) (pos 0) (pos 1)) (small_f n k c) (either Small (nat_lt c (nu + nx)) (pos 0) (pos 1) (omega arith) (omega arith))) (omega arith)) h
+      held_unmarked (place_mark 0 n k c) e (whole_F end nx nu f n k c) (let p = small_f n k c in grind (arith, nat_tests)) h
   whole_unmarked small_f small_g e (in_G n a c h) =
-      held_unmarked (place_mark 0 n (min a c) (max a c)) e (whole_G end nx nu g n a c)
-      (either Small (nat_lt (max a c) (order_of end nx nu n)) (g n (min a c) (max a c)) (pos 0) (small_g n (min a c) (max a c)) (omega arith)) h
+      held_unmarked (place_mark 0 n (min a c) (max a c)) e (whole_G end nx nu g n a c) (let p = small_g n (min a c) (max a c) in grind (arith, nat_tests)) h

@@ -7,7 +7,7 @@ use super::reading::Sizes;
 // The numbers as they were given: N, the numbers of states and inputs, then for each stop before N the rows of F but the last and
 // the upper half of G, then the upper half of G at N.
 #[derive(Drop)]
-pub struct Table {
+pub struct Table<S = Vec<i64>> {
     sizes: Sizes,
-    numbers: Vec<i64>,
+    numbers: S,
 }

@@ -1,9 +1,7 @@
 -- The line with trains has the costs of the line below plus those of the trains. Assumes nothing.
-use Rattle.std.proofs.Common.{◌≡◌, ℕ, suc, ◌+◌, ◌-◌, ◌<◌, min, max, Bool, true, false, cond, ◌&&◌, T, eqb, ltb, [], ℤ, Some, None, Option, sym, refl, ap, ◌∙◌, subst, ap₂, arith, ltb→lt, lt→ltb}
-use lib.Dec.{eqb_refl}
+use Rattle.std.proofs.Common.{◌≡◌, ℕ, suc, ◌+◌, ◌-◌, ◌<◌, min, max, Bool, true, false, cond, ◌&&◌, T, ltb, [], ℤ, Some, None, Option, sym, refl, ap, ◌∙◌, subst, ap₂, arith}
 use Rattle.algebra.specs.Exact.{Exact, Radicand, whole_e, zero_e, one_e, add_e}
 use Rattle.algebra.specs.Field.{OrderedField}
-use Rattle.algebra.proofs.Booleans.{and_join}
 use Rattle.algebra.proofs.ExactField.{exact_field}
 use Rattle.control.specs.Line.{next, stage_cost, final_cost}
 use Rattle.control.specs.Matrix.{form, join}
@@ -11,6 +9,7 @@ use Rattle.control.proofs.Forms.{form_add, form_ext}
 use Rattle.lines.specs.Kinds.{Finds, entry_of}
 use Rattle.lines.specs.Laws.{place_mark}
 use Rattle.lines.specs.Meaning.{Entry, Meaning, order, told}
+use Rattle.std.proofs.lemmas.Bool.Decides.{nat_tests}
 use Rattle.lines.specs.WholeLines.{when, unless}
 use Rattle.aims.specs.Aimed.{raised}
 use Rattle.aims.specs.Shifting.{HeldStop}
@@ -44,7 +43,7 @@ module _ {A : Type 0} {D : ℕ} (good : Radicand D) (value : A → Exact D) (fin
         let begins : order b n - suc b.nx ≡ first = omega arith in
         let inside : max a c < order b n = omega arith in
         let k = all a c (omega arith, omega arith) in
-        let e = sym (when (weighs r.sizes b && ltb (max a c) (order b n)) (added value find r b m (b.G n a c) total) (b.G n a c) (and_join (weighs r.sizes b) (ltb (max a c) (order b n)) counts (lt→ltb (max a c) (order b n) inside))) ∙ k.1 in
+        let e = sym (when (weighs r.sizes b && ltb (max a c) (order b n)) (added value find r b m (b.G n a c) total) (b.G n a c) (grind (arith, nat_tests))) ∙ k.1 in
         let y = after_held (b.G n a c) _ k.0 e in
         let v = after_held (entry_of find m (whole_e D total)) _ k.0 y.1.1 in
         ap T_of k.1 ∙ entry_value value find finds m (add_e (value y.0) (value v.0)) k.0 v.1.1
@@ -58,12 +57,10 @@ module _ {A : Type 0} {D : ℕ} (good : Radicand D) (value : A → Exact D) (fin
         ∙ ap (add_e (form K w (λ a c. T_of (b.G n a c)) z)) (book_form good b.nx first w wide u x n r.trains)
 
   stage_order : (n : ℕ) → n < b.end → order b n ≡ b.nu + suc b.nx
-  stage_order n h = when (ltb n b.end) (b.nu + suc b.nx) _ (lt→ltb n b.end h)
+  stage_order n h = grind (arith, nat_tests)
 
   last_order : order b b.end ≡ suc b.nx
-  last_order =
-      unless (ltb b.end b.end) _ (cond (eqb b.end b.end) (suc b.nx) 0) (λ h. let q = ltb→lt b.end b.end h in omega arith)
-      ∙ when (eqb b.end b.end) (suc b.nx) 0 (eqb_refl b.end)
+  last_order = grind (arith, nat_tests)
 
   counted : T (weighs r.sizes b) → Adds good value here b r.trains
   unfolding stage_cost final_cost next
@@ -83,7 +80,7 @@ module _ {A : Type 0} {D : ℕ} (good : Radicand D) (value : A → Exact D) (fin
   }
     where
       same : (n w : ℕ) (z : ℕ → Exact D) → form K w (λ a c. T_of (here.G n a c)) z ≡ form K w (λ a c. T_of (b.G n a c)) z
-      same n w z = form_ext K w _ _ z z (λ a c h l. ap T_of (unless (weighs r.sizes b && ltb (max a c) (order b n)) _ (b.G n a c) (λ t. subst (λ (v : Bool). T (v && ltb (max a c) (order b n))) off t))) (λ a h. refl)
+      same n w z = form_ext K w _ _ z z (λ a c h l. ap T_of (unless (weighs r.sizes b && ltb (max a c) (order b n)) _ (b.G n a c) (grind (arith, nat_tests)))) (λ a h. refl)
 
   -- any book adds the trains that count
   pub counting_add : Adds good value here b (counting r b)

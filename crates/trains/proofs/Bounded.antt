@@ -1,5 +1,5 @@
 -- The sums over a book's trains are at most 64 × 999³ in size. Assumes nothing.
-use Rattle.std.proofs.Common.{◌≡◌, ℕ, zero, suc, ◌+◌, ◌*◌, ◌≤◌, eqb, List, [], ◌∷◌, length, ℤ, pos, ◌+ℤ◌, ◌*ℤ◌, neg_ℤ, nat_abs, Some, None, vec_items, vec_len, fold, Option, sym, refl, subst, arith}
+use Rattle.std.proofs.Common.{◌≡◌, ℕ, zero, suc, ◌+◌, ◌*◌, ◌≤◌, List, [], ◌∷◌, length, ℤ, pos, ◌+ℤ◌, ◌*ℤ◌, neg_ℤ, nat_abs, Some, None, vec_items, vec_len, fold, Option, sym, refl, subst, arith}
 use mathlib.Core.Logic.{∥∥₁_elim}
 use native.Mathlib.Bridge.{le_prop}
 use native.Mathlib.Decide.{dec_lt}
@@ -9,7 +9,7 @@ use Rattle.std.proofs.lemmas.List.{get_or_past}
 use Rattle.std.proofs.lemmas.Int.{ints}
 use Rattle.control.specs.Matrix.{join}
 use Rattle.lines.specs.Whole.{cell}
-use Rattle.lines.specs.WholeLines.{either}
+use Rattle.std.proofs.lemmas.Bool.Decides.{nat_tests}
 use Rattle.numbers.specs.Bounds.{abs_add}
 use Rattle.feeds.specs.Held.{held}
 use Rattle.feeds.specs.declared.book.Book.{Book}
@@ -44,8 +44,8 @@ module _ (s : Sizes) (n first nx a c : ℕ) where
 
   share_bound : (t : Train) → GoodTrain s t → nat_abs (at_stop n t (share first nx t a c)) ≤ 999 * 999 * 999
   share_bound t g =
-      either (λ (z : ℤ). nat_abs z ≤ 999 * 999 * 999) (eqb t.stop n) (share first nx t a c) (pos 0)
-      (abs_product (pos t.weight *ℤ factor first nx t a) (factor first nx t c) (999 * 999) 999 (abs_product (pos t.weight) (factor first nx t a) 999 999 g.weight.1 (factor_bound t g a)) (factor_bound t g c)) (omega arith)
+      let p = abs_product (pos t.weight *ℤ factor first nx t a) (factor first nx t c) (999 * 999) 999 (abs_product (pos t.weight) (factor first nx t a) 999 999 g.weight.1 (factor_bound t g a)) (factor_bound t g c) in
+      grind (arith, nat_tests)
 
   fold_bound : (ts : List Train) → AllByRecursion (GoodTrain s) ts → (z : ℤ) → nat_abs (fold (λ s t. s +ℤ at_stop n t (share first nx t a c)) z ts) ≤ nat_abs z + length ts * (999 * 999 * 999)
   fold_bound [] all z = omega arith

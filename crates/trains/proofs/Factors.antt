@@ -1,17 +1,13 @@
 -- The factors of a train by their places, and how large they are. Assumes nothing.
-use Rattle.std.proofs.Common.{◌≡◌, ℕ, ◌+◌, ◌-◌, ◌*◌, ◌^◌, ◌<◌, ◌≤◌, T, eqb, List, length, get_or, take, ℤ, pos, ◌+ℤ◌, ◌*ℤ◌, neg_ℤ, nat_abs, sym, ap, ◌∙◌, subst, ap₂, add-mul, mul-le-mul, one-mul, arith, eqb→eq, w64, SFits, to_z, of_z}
+use Rattle.std.proofs.Common.{◌≡◌, ℕ, ◌+◌, ◌-◌, ◌*◌, ◌^◌, ◌<◌, ◌≤◌, ℤ, ◌*ℤ◌, neg_ℤ, nat_abs, sym, ap, ◌∙◌, subst, ap₂, mul-le-mul, arith, w64, SFits, to_z, of_z}
 use Rattle.numbers.specs.Machine.{fits}
-use Rattle.numbers.specs.Bounds.{abs_add}
 use Rattle.std.proofs.lemmas.Int.{to_z-of_z}
 use Rattle.algebra.proofs.Integers.{abs_mul}
 use Rattle.control.specs.Matrix.{join}
 use Rattle.control.proofs.Lists.{join_left, join_right}
 use Rattle.lines.specs.Whole.{cell}
 use Rattle.feed_types.specs.declared.types.Train.{Train}
-use lib.Dec.{eqb_refl}
-use Rattle.std.proofs.lemmas.List.Sums.{fold_more}
-use Rattle.lines.specs.WholeLines.{when, unless}
-use Rattle.trains.specs.Weights.{factor, share, at_stop, weighed}
+use Rattle.trains.specs.Weights.{factor}
 
 pub factor_move : (first nx : ℕ) (t : Train) (a : ℕ) → a < first → factor first nx t a ≡ cell t.moves a
 factor_move first nx t a h = join_left first (cell t.moves) (join nx (cell t.late) (λ _. neg_ℤ t.aim)) a h

@@ -1,9 +1,9 @@
 -- The line with trains is lawful, and its marks are its own or those of the line below. Assumes nothing.
 use Rattle.std.specs.Prelude.{◌≡◌, ℕ, suc, ◌-◌, min, max, Bool, true, false, cond, ◌&&◌, ◌⊎◌, ℤ, Option, nat_lt, refl}
-use Rattle.std.proofs.Common.{sym, ◌∙◌, ap, ap₂, subst, inl, inr, arith, ltb→lt}
+use Rattle.std.proofs.Common.{sym, ◌∙◌, ap, ap₂, subst, inl, inr, arith}
 use Rattle.std.proofs.Math.Nat as NatL
+use Rattle.std.proofs.lemmas.Bool.Decides.{nat_tests}
 use Rattle.algebra.specs.Exact.{Exact, whole_e, zero_e, add_e}
-use Rattle.algebra.proofs.Booleans.{and_split}
 use Rattle.lines.specs.Kinds.{entry_of}
 use Rattle.lines.specs.Laws.{Means, Lawful, Levelled, layer, Marks, in_F, in_G, G_mark, place_mark}
 use Rattle.lines.specs.Meaning.{Entry, marked, Meaning, order}
@@ -41,7 +41,7 @@ module _ {A : Type 0} {D : ℕ} (value : A → Exact D) (find : ℤ → ℤ → 
   trains_lawful l = record {
     outside_F = l.outside_F;
     outside_G = λ n a c o. subst (λ (x : Entry A). Means value x (zero_e D))
-        (sym (unless (weighs r.sizes b && nat_lt (max a c) (order b n)) _ (b.G n a c) (λ h. let q = ltb→lt (max a c) (order b n) (and_split (weighs r.sizes b) (nat_lt (max a c) (order b n)) h).1 in o (omega arith, omega arith)))) (l.outside_G n a c o);
+        (sym (unless (weighs r.sizes b && nat_lt (max a c) (order b n)) _ (b.G n a c) (λ h. o (grind (arith, nat_tests), grind (arith, nat_tests))))) (l.outside_G n a c o);
     last_row = l.last_row;
     corner = l.corner;
     mirror = λ n a c. ap₂ (λ (lo hi : ℕ). place n lo hi (b.G n a c)) (NatL.min_comm a c) (NatL.max_comm a c) ∙ ap (place n (min c a) (max c a)) (l.mirror n a c);

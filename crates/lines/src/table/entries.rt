@@ -10,11 +10,12 @@ use super::super::reading::number_at;
 use super::super::worked::whole_at;
 use super::Table;
 use numbers::Fraction;
+use std::convert::AsSlice;
 
-impl Table {
+impl<S: AsSlice<i64>> Table<S> {
     // The whole number at a place of F.
     fn f_number(&self, stop: usize, row: usize, column: usize) -> i64
-        ensures { result ≡ whole_F self.now.sizes.stops self.now.sizes.states self.now.sizes.inputs (table_F self.now.sizes.states self.now.sizes.inputs self.now.numbers.items) stop row column }
+        ensures { result ≡ whole_F self.now.sizes.stops self.now.sizes.states self.now.sizes.inputs (table_F self.now.sizes.states self.now.sizes.inputs (S.items self.now.numbers)) stop row column }
     {
         let states = usize::from(self.sizes.states);
         let last = usize::from(self.sizes.inputs) + states;
@@ -32,7 +33,7 @@ impl Table {
 
     // The whole number at a place of G.
     fn g_number(&self, stop: usize, row: usize, column: usize) -> i64
-        ensures { result ≡ whole_G self.now.sizes.stops self.now.sizes.states self.now.sizes.inputs (table_G self.now.sizes.stops self.now.sizes.states self.now.sizes.inputs self.now.numbers.items) stop row column }
+        ensures { result ≡ whole_G self.now.sizes.stops self.now.sizes.states self.now.sizes.inputs (table_G self.now.sizes.stops self.now.sizes.states self.now.sizes.inputs (S.items self.now.numbers)) stop row column }
     {
         let low = row.min(column);
         let high = row.max(column);
@@ -51,14 +52,14 @@ impl Table {
     }
 }
 
-impl Line for Table {
+impl<S: AsSlice<i64>> Line for Table<S> {
     type Number = Fraction;
 
-    ghost meaning = { λ t. table_line t.sizes.stops t.sizes.states t.sizes.inputs t.numbers.items };
+    ghost meaning = { λ t. table_line t.sizes.stops t.sizes.states t.sizes.inputs (S.items t.numbers) };
 
-    ghost lawful = { λ t. table_lawful t.sizes.stops t.sizes.states t.sizes.inputs t.numbers.items };
+    ghost lawful = { λ t. table_lawful t.sizes.stops t.sizes.states t.sizes.inputs (S.items t.numbers) };
 
-    ghost levelled = { λ t. table_levelled t.sizes.stops t.sizes.states t.sizes.inputs t.numbers.items };
+    ghost levelled = { λ t. table_levelled t.sizes.stops t.sizes.states t.sizes.inputs (S.items t.numbers) };
 
     fn stops(&self) -> usize {
         usize::from(self.sizes.stops)

@@ -1,31 +1,23 @@
-use Rattle.std.proofs.Common.{◌≡◌, ℕ, ◌+◌, ◌-◌, ◌<◌, ◌≤◌, List, length, drop, ℤ, pos, Some, None, Option, MatchOption, sym, ◌∙◌, subst, arith, rules, length-drop}
-use native.Mathlib.Decide.{dec_lt}
+use Rattle.std.proofs.Common.{◌≡◌, ℕ, ◌+◌, ◌-◌, ◌<◌, List, length, drop, ℤ, pos, Some, None, Option, MatchOption, sym, ◌∙◌, subst, arith, rules, length-drop}
 use borrow.Author.Tests.{tests}
 use Rattle.std.specs.List.{AllWithin, HoldsAt}
 use Rattle.std.proofs.lemmas.Iterator.{IsFirst-from_position, YieldsList-from_slice}
-use Rattle.std.proofs.lemmas.List.{get_or_past, get_or-drop, take_all}
+use Rattle.std.proofs.lemmas.List.{take_all}
+use Rattle.std.proofs.lemmas.Grind.{common_steps}
 use Rattle.lines.specs.Opening.{FirstBeyond}
 use Rattle.lines.specs.Whole.{Small, SmallFrom, cell}
 use Rattle.lines.proofs.reading.first_beyond.Goals as goal
 
 module _ (zs : List ℤ) (j : ℕ) where
-  -- the number at a place of the rest
-  later : (P : ℤ → Type 0) (i : ℕ) → j ≤ i → P (cell (drop j zs) (i - j)) → P (cell zs i)
-  later P i h p = let e : j + (i - j) ≡ i = omega arith in subst (λ k. P (cell zs k)) e (subst P (get_or-drop j zs (i - j) (pos 0)) p)
-
   none_beyond : AllWithin Small (drop j zs) 0 (length (drop j zs)) → SmallFrom j zs
-  none_beyond h i l =
-      elim (dec_lt i (length zs)) [
-        | yes m ↦ later Small i l (h (i - j) (pos 0) (omega arith) (omega (arith, length-drop j zs)))
-        | no n ↦ subst Small (sym (get_or_past zs i (pos 0) (omega arith))) (omega arith)
-      ]
+  none_beyond h i l = (let p = h (i - j) (pos 0) in grind (arith, common_steps))
 
   beyond : (i : ℕ) → i < length (drop j zs) → ¬ Small (cell (drop j zs) i) → AllWithin Small (drop j zs) 0 i → FirstBeyond j zs (j + i)
   beyond i l p h = record {
     from = omega arith;
     inside = omega (arith, length-drop j zs);
-    beyond = subst (λ z. ¬ Small z) (get_or-drop j zs i (pos 0)) p;
-    before = λ k m n. later Small k m (h (k - j) (pos 0) (omega arith) (omega arith));
+    beyond = grind (arith, common_steps);
+    before = λ k m n. let q = h (k - j) (pos 0) in grind (arith, common_steps);
   }
 
   moved : (r s : Option ℕ) → MatchOption r (AllWithin Small (drop j zs) 0 (length (drop j zs))) (λ i. (i < length (drop j zs)) × HoldsAt (λ z. ¬ Small z) (drop j zs) i × AllWithin Small (drop j zs) 0 i)

@@ -1,4 +1,4 @@
-use Rattle.std.proofs.Common.{◌≡◌, ◌*◌, ◌≤◌, ℤ, pos, ◌*ℤ◌, nat_abs, sym, ap, ◌∙◌, subst, ap₂, rules}
+use Rattle.std.proofs.Common.{◌*◌, ◌≤◌, ◌*ℤ◌, nat_abs, sym, ◌∙◌, subst, ap₂, rules}
 use Rattle.trains.proofs.Factors.{share_fits, share_is, share_bound}
 use Rattle.trains.proofs.weights.Places.share.Goals as goal
 

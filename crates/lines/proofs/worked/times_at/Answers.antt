@@ -1,8 +1,0 @@
-use Rattle.algebra.specs.Exact.{mul_e}
-use Rattle.lines.specs.Finding.{worked}
-use Rattle.lines.proofs.worked.times_at.Goals as goal
-
-pub returns : goal.returns
-returns g c =
-    worked g.N.Number.value g.N.Kind.find g.met.N.Kind.finds g.met.N.Number.same (mul_e (g.N.Number.value c.args.a) (g.N.Number.value c.args.b)) c.args.mark
-    c.times.result c.at_place.result c.times.ensures c.at_place.ensures
