@@ -9,13 +9,11 @@ use std::test::Fail;
 
 // The whole number that an entry is; −99 for any other answer.
 fn whole(entry: Result<Fraction, LineFault>) -> i64 {
-    match entry {
-        Ok(k) => {
-            let row = k.row();
-            if row.m == 1 { row.p } else { -99 }
-        }
-        Err(_) => -99,
-    }
+    entry
+        .ok()
+        .map(|k| k.row())
+        .filter(|row| row.m == 1)
+        .map_or(-99, |row| row.p)
 }
 
 #[test]

@@ -11,10 +11,7 @@ use trains::layer::Trains;
 
 // Whether an entry is 0.
 fn is_zero(entry: Result<Fraction, LineFault>) -> bool {
-    match entry {
-        Ok(k) => k.row().p == 0,
-        Err(_) => false,
-    }
+    entry.is_ok_and(|k| k.row().p == 0)
 }
 
 // Aims over trains over aims over a line of these sizes, asked at the largest places.
@@ -45,13 +42,10 @@ fn odd_sizes(rt: HostRuntime) -> Result<(), Fail> {
 
 // Whether an entry is (p + q√5)/m.
 fn is_root(entry: Result<Root<Five>, LineFault>, p: i64, q: i64, m: i64) -> bool {
-    match entry {
-        Ok(k) => {
-            let row = k.row();
-            row.p == p && row.q == q && row.m == m
-        }
-        Err(_) => false,
-    }
+    entry.is_ok_and(|k| {
+        let row = k.row();
+        row.p == p && row.q == q && row.m == m
+    })
 }
 
 // Whether an entry is a whole number.
@@ -63,26 +57,22 @@ fn is_whole(entry: Result<Root<Five>, LineFault>, w: i64) -> bool {
 #[test]
 fn steady_over_roots(rt: HostRuntime) -> Result<(), Fail> {
     let weight = Root::<Five>::read(Parts { p: 1, q: 1, m: 2 });
-    match Steady::open(&[24, 1, 1, 0, 1, 0, 0, 1, 0, 0], weight) {
-        Ok(line) => {
-            assert!(rt; is_whole(line.f(23, 0, 0), 1));
-            assert!(rt; is_whole(line.f(23, 0, 1), 1));
-            assert!(rt; is_whole(line.f(23, 0, 2), 0));
-            assert!(rt; is_whole(line.g(23, 0, 0), 1));
-            assert!(rt; is_whole(line.g(23, 0, 1), 0));
-            assert!(rt; is_whole(line.g(23, 0, 2), 0));
-            assert!(rt; is_whole(line.g(23, 1, 1), 1));
-            assert!(rt; is_whole(line.g(23, 1, 2), 0));
-            assert!(rt; is_whole(line.g(23, 2, 2), 0));
-            assert!(rt; is_root(line.g(24, 0, 0), 1, 1, 2));
-            assert!(rt; is_whole(line.g(24, 1, 1), 0));
-            // outside: at the last stop and past it, and past the last row
-            assert!(rt; is_whole(line.f(24, 0, 0), 0));
-            assert!(rt; is_whole(line.f(23, 2, 0), 0));
-            assert!(rt; is_whole(line.g(23, 3, 3), 0));
-            assert!(rt; is_whole(line.g(25, 0, 0), 0));
-            Ok(())
-        }
-        Err(_) => Err(Fail::new("the line is good")),
-    }
+    let line = Steady::open(&[24, 1, 1, 0, 1, 0, 0, 1, 0, 0], weight)?;
+    assert!(rt; is_whole(line.f(23, 0, 0), 1));
+    assert!(rt; is_whole(line.f(23, 0, 1), 1));
+    assert!(rt; is_whole(line.f(23, 0, 2), 0));
+    assert!(rt; is_whole(line.g(23, 0, 0), 1));
+    assert!(rt; is_whole(line.g(23, 0, 1), 0));
+    assert!(rt; is_whole(line.g(23, 0, 2), 0));
+    assert!(rt; is_whole(line.g(23, 1, 1), 1));
+    assert!(rt; is_whole(line.g(23, 1, 2), 0));
+    assert!(rt; is_whole(line.g(23, 2, 2), 0));
+    assert!(rt; is_root(line.g(24, 0, 0), 1, 1, 2));
+    assert!(rt; is_whole(line.g(24, 1, 1), 0));
+    // outside: at the last stop and past it, and past the last row
+    assert!(rt; is_whole(line.f(24, 0, 0), 0));
+    assert!(rt; is_whole(line.f(23, 2, 0), 0));
+    assert!(rt; is_whole(line.g(23, 3, 3), 0));
+    assert!(rt; is_whole(line.g(25, 0, 0), 0));
+    Ok(())
 }

@@ -80,21 +80,12 @@ impl Sizes {
         usize::from(self.states) * width + row_start(width, width)
     }
 
-    // Where the numbers of a stop begin.
-    fn start(self, stop: usize) -> usize
-        requires { stop ≤ self.stops }
-        ensures value { result ≡ 3 + stop * block self.states self.inputs }
-        ensures bound { result ≤ 200000000 }
-    {
-        3 + stop * self.block()
-    }
-
     // How many numbers a table of these sizes has.
     pub(super) fn length(self) -> usize
         ensures { result ≡ table_length self.stops self.states self.inputs }
     {
         let order = usize::from(self.states) + 1;
-        self.start(usize::from(self.stops)) + row_start(order, order)
+        3 + usize::from(self.stops) * self.block() + row_start(order, order)
     }
 
     // The index of a number of F.
@@ -104,7 +95,7 @@ impl Sizes {
         requires column { column ≤ self.inputs + self.states }
         ensures { result ≡ F_index self.states self.inputs stop row column }
     {
-        self.start(stop) + (row * self.width() + column)
+        3 + stop * self.block() + (row * self.width() + column)
     }
 
     // The index of a number of the upper half of G, at a stop before the last.
@@ -115,7 +106,7 @@ impl Sizes {
         ensures { result ≡ G_index self.states self.inputs stop row column }
     {
         let width = self.width();
-        self.start(stop)
+        3 + stop * self.block()
             + (usize::from(self.states) * width + (row_start(width, row) + (column - row)))
     }
 
@@ -125,7 +116,7 @@ impl Sizes {
         requires column { column ≤ self.states }
         ensures { result ≡ last_index self.states self.inputs self.stops row column }
     {
-        self.start(usize::from(self.stops))
+        3 + usize::from(self.stops) * self.block()
             + (row_start(usize::from(self.states) + 1, row) + (column - row))
     }
 }

@@ -8,13 +8,11 @@ use std::test::Fail;
 
 // The whole number that an entry is; −1 for any other answer.
 fn whole(entry: Result<Fraction, LineFault>) -> i64 {
-    match entry {
-        Ok(k) => {
-            let row = k.row();
-            if row.m == 1 { row.p } else { -1 }
-        }
-        Err(_) => -1,
-    }
+    entry
+        .ok()
+        .map(|k| k.row())
+        .filter(|row| row.m == 1)
+        .map_or(-1, |row| row.p)
 }
 
 #[test]
@@ -35,7 +33,7 @@ fn table_places(rt: HostRuntime) -> Result<(), Fail> {
     Ok(())
 }
 
-fn refusal(numbers: Vec<i64>) -> u8 {
+fn refusal(numbers: &[i64]) -> u8 {
     match Table::open(numbers) {
         Ok(_) => 0,
         Err(fault) => fault.number(),
@@ -44,11 +42,11 @@ fn refusal(numbers: Vec<i64>) -> u8 {
 
 #[test]
 fn table_refusals(rt: HostRuntime) -> Result<(), Fail> {
-    assert_eq!(rt; refusal([2, 1].to_vec(rt.alloc())?), 3);
-    assert_eq!(rt; refusal([25, 1, 1].to_vec(rt.alloc())?), 3);
-    assert_eq!(rt; refusal([1, 1, 1, 0].to_vec(rt.alloc())?), 4);
+    assert_eq!(rt; refusal(&[2, 1]), 3);
+    assert_eq!(rt; refusal(&[25, 1, 1]), 3);
+    assert_eq!(rt; refusal(&[1, 1, 1, 0]), 4);
     assert_eq!(rt;
-        refusal([1, 1, 1, 1, 1, 0, 1, 0, 10000, 1, 0, 0, 1, 0, 0].to_vec(rt.alloc())?),
+        refusal(&[1, 1, 1, 1, 1, 0, 1, 0, 10000, 1, 0, 0, 1, 0, 0]),
         5
     );
     Ok(())
