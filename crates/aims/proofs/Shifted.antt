@@ -25,13 +25,13 @@ use Rattle.aims.proofs.ShiftedForm.{shifted_form}
 -- ---- what a held entry was worked from
 pub after_held : {A : Type 0} (x : Entry A) (f : A → Entry A) (k : A) → after x f ≡ holds k → (s : A) × ((x ≡ holds s) × (f s ≡ holds k))
 after_held (holds s) f k h = (s, (refl, h))
-after_held (marked m) f k h = let z : ◌≡◌ {A = ℕ} 0 1 = cc in absurd (omega (arith, z))
+after_held (marked m) f k h = absurd cc
 
 pub entry_value : {A : Type 0} {D : ℕ} (value : A → Exact D) (find : ℤ → ℤ → ℕ → Option A) → Finds value find → (m : Mark) (x : Exact D) (k : A) → entry_of find m x ≡ holds k → value k ≡ x
 entry_value {A} {D} value find finds m x k h =
     elim (entry_cases value find finds x m) [
       | held j e v ↦ (let same : holds k ≡ holds j = sym h ∙ e in let q : k ≡ j = cc in ap value q ∙ v)
-      | not_held e n ↦ (let same : holds k ≡ marked m = sym h ∙ e in let z : ◌≡◌ {A = ℕ} 0 1 = cc in absurd (omega (arith, z)))
+      | not_held e n ↦ (let same : holds k ≡ marked m = sym h ∙ e in absurd cc)
     ]
 
 -- the place after the first m of a joined list

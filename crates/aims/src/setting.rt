@@ -41,6 +41,7 @@ fn put(aims: &mut [i16; 4], state: usize, aim: i16)
 
 impl<L: Line> Aims<L> {
     // Aims over a line, all of them 0.
+    #[tactic(auto, using(crate::proofs::Aiming::no_aims))]
     pub fn over(below: L) -> Aims<L>
         ensures line { result.below ≡ below }
         ensures aims { (n k : ℕ) → aim result.aims n k ≡ pos 0 }

@@ -27,7 +27,7 @@ module _ {A : Type 0} {D : ℕ} (value : A → Exact D) (w : A) (m : Meaning A) 
   swapped true true true e e' h = refl
 
   unheld : (b : Bool) (e : Entry A) (k : Mark) → cond b (holds w) e ≡ marked k → e ≡ marked k
-  unheld true e k h = let z : ◌≡◌ {A = ℕ} 0 1 = cc in absurd (omega (arith, z))
+  unheld true e k h = absurd cc
   unheld false e k h = h
 
   -- the lateness at the last stop has a place there

@@ -33,7 +33,7 @@ unless false x y n = refl
 
 -- ---- the mark of an entry is the one it was given
 kept_mark : {A : Type 0} (m e : Mark) (o : Option A) → kept m o ≡ marked e → e ≡ m
-kept_mark m e (Some k) h = let z : ◌≡◌ {A = ℕ} 0 1 = cc in absurd (omega (arith, z))
+kept_mark m e (Some k) h = absurd cc
 kept_mark m e None h = cc
 
 pub entry_mark : {A : Type 0} {D : ℕ} (find : ℤ → ℤ → ℕ → Option A) (m e : Mark) (x : Exact D) → entry_of find m x ≡ marked e → e ≡ m
@@ -86,7 +86,7 @@ module _ {A : Type 0} {D : ℕ} (value : A → Exact D) (find : ℤ → ℤ → 
   held_unmarked m e w s h =
       let k = entry_means value find finds (whole_e D w) m (wholes w s) in
       let same : holds k.0 ≡ marked e = sym k.1.0 ∙ h in
-      let z : ◌≡◌ {A = ℕ} 0 1 = cc in omega (arith, z)
+      cc
 
   pub whole_unmarked : ((n k c : ℕ) → Small (f n k c)) → ((n a c : ℕ) → Small (g n a c)) → Unmarked here
   whole_unmarked small_f small_g e (in_F n k c h) =

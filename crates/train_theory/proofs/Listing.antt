@@ -29,7 +29,7 @@ bare (more {c = c} h bs (Ok n) g) e = go g.feed.sizes c.trains (sym g.sizes ∙ 
   where
     go : (s : Sizes) (ts : List Train) → sizes_for (Some s) ts ≡ None → ts ≡ []
     go s [] p = refl
-    go s (t ∷ ts) p = let z : ◌≡◌ {A = ℕ} 0 1 = cc in absurd (omega (arith, z))
+    go s (t ∷ ts) p = absurd cc
 bare (more h bs (Err e) g) p =
     subst (λ (r : Register). r.sizes ≡ None → r.trains ≡ []) (sym g.1) (bare h) p
 
