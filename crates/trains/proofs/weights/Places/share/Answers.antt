@@ -1,4 +1,4 @@
-use Rattle.std.proofs.Common.{◌*◌, ◌≤◌, ◌*ℤ◌, nat_abs, sym, ◌∙◌, subst, ap₂, rules}
+use Rattle.std.proofs.Common.{◌*◌, ◌≤◌, nat_abs, sym, subst, rules}
 use Rattle.trains.proofs.Factors.{share_fits, share_is, share_bound}
 use Rattle.trains.proofs.weights.Places.share.Goals as goal
 
@@ -10,6 +10,6 @@ returns c =
     let w : nat_abs c.from.result ≤ 65535 = search rules in
     let is = share_is c.from.result c.factor.result c.factor-2.result w c.factor.ensures.bound c.factor-2.ensures.bound in
     record {
-      value = is ∙ ap₂ ◌*ℤ◌ (ap₂ ◌*ℤ◌ c.from.ensures c.factor.ensures.value) c.factor-2.ensures.value;
+      value = cc is;
       bound = subst (λ z. nat_abs z ≤ 65535 * 32768 * 32768) (sym is) (share_bound c.from.result c.factor.result c.factor-2.result w c.factor.ensures.bound c.factor-2.ensures.bound);
     }
