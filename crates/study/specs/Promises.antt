@@ -1,8 +1,7 @@
--- What each of the ten calls promises, for every input: what it leaves when it is granted, and that a refusal is the first of its checks that
+-- What the calls that move a study promise, for every input: what each leaves when it is granted, and that a refusal is the first of its checks that
 -- fails, hands the study back and leaves the sheets. N is a kind of number with the values A. Assumes nothing.
 --
 --   WeighPromise, BeginPromise, ProposePromise, ConfirmPromise   of the study, the sheets before and after, and the answer
---   AnswerPromise s c y r                                        a question that makes the checks c answers the number y, or refuses
 --   ClosePromise u r                                             a close at the last stop gives the study back weighed
 use Rattle.std.specs.Prelude.{◌≡◌, suc, List, length, Result, MatchResult}
 use Rattle.numbers.specs.declared.Number.{Ghosts}
@@ -12,10 +11,9 @@ use Rattle.study_terms.specs.declared.faults.kinds.StudyFault.{StudyFault}
 use Rattle.study_terms.specs.Shapes.{shape_of}
 use Rattle.study_terms.specs.Sized.{shape}
 use Rattle.study_terms.specs.Refusals.{refusal}
-use Rattle.study_terms.specs.Formulas.{NumberOf}
-use Rattle.study_terms.specs.Checks.{Checks, Passes, RefusedWith}
+use Rattle.study_terms.specs.Checks.{Passes, RefusedWith}
 use Rattle.study_terms.specs.Weighing.{WeighGranted, WeighRefused}
-use Rattle.study_terms.specs.Calls.{begin_checks, propose_checks, confirm_checks, close_checks, BeginGranted, ProposeGranted, ConfirmGranted, AnswerGranted}
+use Rattle.study_terms.specs.Calls.{begin_checks, propose_checks, confirm_checks, close_checks, BeginGranted, ProposeGranted, ConfirmGranted}
 use Rattle.study_theory.specs.Runs.{weighed, underway, ordered}
 use Rattle.study.specs.declared.states.New.{New}
 use Rattle.study.specs.declared.states.Weighed.{Weighed}
@@ -43,9 +41,6 @@ module _ {A : Type 0} (N : Ghosts A) where
   ConfirmPromise o m made trail trail' r = MatchResult r
       (λ u. (underway_stage u ≡ underway (shape o.at.sizes) (suc o.at.stop)) × ConfirmGranted N (shape o.at.sizes) m o.at.stop made trail trail')
       (λ e. (e.0 ≡ o) × RefusedWith N (confirm_checks N (shape o.at.sizes) m o.at.stop made trail) (refusal e.1) × (trail' ≡ trail))
-
-  abbrev pub AnswerPromise : Checks A (NumberOf N) → NumberOf N → Result A StudyFault → Type 0
-  AnswerPromise c y r = MatchResult r (λ x. AnswerGranted N c y x) (λ e. RefusedWith N c (refusal e))
 
   abbrev pub ClosePromise : Underway A → Result (Weighed A) (Underway A × StudyFault) → Type 0
   ClosePromise u r = MatchResult r

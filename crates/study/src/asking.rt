@@ -1,8 +1,7 @@
 // Where a study stands; paid, rest and excess.
 ghost use Rattle.std.specs.Prelude.{◌≡◌};
 ghost use Rattle.study_terms.specs.Sized.{shape};
-ghost use Rattle.study_terms.specs.Calls.{paid_checks, rest_checks, excess_checks, paid_at, rest_at, excess_at};
-ghost use Rattle.study.specs.Promises.{AnswerPromise};
+ghost use Rattle.study_terms.specs.Calls.{paid_checks, rest_checks, excess_checks, paid_at, rest_at, excess_at, AnswerPromise};
 
 use super::states::Underway;
 use lines::line::{Kind, Line};

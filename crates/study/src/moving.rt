@@ -61,12 +61,8 @@ impl<N: Kind + Copy> Ordered<N> {
     pub fn withdraw(self) -> Underway<N>
         ensures { underway_stage result ≡ underway (shape self.at.sizes) self.at.stop }
     {
-        let at = self.settle();
         Underway {
-            at: Standing {
-                sizes: at.sizes,
-                stop: at.stop,
-            },
+            at: Standing::from(self.settle()),
             kind: PhantomData,
         }
     }

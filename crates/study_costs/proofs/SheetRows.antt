@@ -1,46 +1,81 @@
--- One more row written into a sheet. Assumes nothing.
-use Rattle.std.proofs.Common.{◌≡◌, ℕ, ◌+◌, ◌<◌, ◌≢◌, List, length, get_or, set, Ok, sym, ◌∙◌, subst, arith}
+-- Rows written into a sheet, one after the other or in a part of it. N is a kind of number with the values A. Assumes nothing.
+--
+--   Entered N numbers n from was now   the first n numbers of a list stand in the sheet from a place on, and the other rows are as they were
+--   Zeroed from to was now             the rows from one place on before another are zero, and the others are as they were
+use Rattle.std.proofs.Common.{◌≡◌, ℕ, ◌+◌, ◌-◌, ◌<◌, ◌≤◌, List, ◌++◌, length, get_or, set, take, drop, replicate, Ok, sym, ap, ◌∙◌, subst, arith, length-drop, rules}
 use native.Mathlib.Decide.{ℕ_discrete}
-use Rattle.std.proofs.lemmas.List.{get_or-set_same, get_or-set_other}
+use borrow.Rule.Slice.PartMut.{put_mid}
+use Rattle.std.proofs.lemmas.List.{get_or_append_left, get_or-set_same, get_or-set_other, length-take-le, places}
 use Rattle.numbers.specs.declared.Number.{Ghosts}
 use Rattle.numbers.specs.declared.Parts.{Parts}
 use Rattle.study_terms.specs.Formulas.{NumberOf, Formula, exact, Sound, Outcome}
 use Rattle.study_terms.specs.Sheets.{blank, zero_row, at, Written}
-use Rattle.study_costs.specs.Rows.{Entered, Zeroed, WorkedRows}
+use Rattle.study_costs.specs.Rows.{Filled, WorkedRows}
 
-pub entered_more : {A : Type 0} (N : Ghosts A) (numbers : List Parts) (n from : ℕ) (was now : List Parts) (row : Parts) → from + n < length now
-    → Entered N numbers n from was now → Written N (at N numbers n) row → Entered N numbers (n + 1) from was (set now (from + n) row)
-entered_more N numbers n from was now row l e w = record {
-  rows = λ j h. elim (ℕ_discrete j n) [
-    | yes z ↦ subst (λ j. Written N (at N numbers j) (get_or (set now (from + n) row) (from + j) blank)) (sym z)
-        (subst (Written N (at N numbers n)) (sym (get_or-set_same now (from + n) row blank l)) w)
-    | no d ↦
-        let o : from + j ≢ from + n = omega arith in
-        subst (Written N (at N numbers j)) (sym (get_or-set_other now (from + n) (from + j) row blank o)) (e.rows j (omega arith))
-  ];
-  before = λ t h. let o : t ≢ from + n = omega arith in get_or-set_other now (from + n) t row blank o ∙ e.before t h;
-  after = λ t h. let o : t ≢ from + n = omega arith in get_or-set_other now (from + n) t row blank o ∙ e.after t (omega arith);
-}
+pub record Entered {A : Type 0} (N : Ghosts A) (numbers : List Parts) (n from : ℕ) (was now : List Parts) : Type 0 where
+  pub rows : (j : ℕ) → j < n → Written N (at N numbers j) (get_or now (from + j) blank)
+  pub before : (t : ℕ) → t < from → get_or now t blank ≡ get_or was t blank
+  pub after : (t : ℕ) → from + n ≤ t → get_or now t blank ≡ get_or was t blank
 
-pub zeroed_more : (from place : ℕ) (was now : List Parts) → from < place + 1 → place < length now
-    → Zeroed from place was now → Zeroed from (place + 1) was (set now place zero_row)
-zeroed_more from place was now f l z = record {
-  rows = λ t g h. elim (ℕ_discrete t place) [
-    | yes e ↦ subst (λ t. get_or (set now place zero_row) t blank ≡ zero_row) (sym e) (get_or-set_same now place zero_row blank l)
-    | no o ↦ get_or-set_other now place t zero_row blank o ∙ z.rows t g (omega arith)
-  ];
-  before = λ t h. let o : t ≢ place = omega arith in get_or-set_other now place t zero_row blank o ∙ z.before t h;
-  after = λ t h. let o : t ≢ place = omega arith in get_or-set_other now place t zero_row blank o ∙ z.after t (omega arith);
-}
+pub record Zeroed (from to : ℕ) (was now : List Parts) : Type 0 where
+  pub rows : (t : ℕ) → from ≤ t → t < to → get_or now t blank ≡ zero_row
+  pub before : (t : ℕ) → t < from → get_or now t blank ≡ get_or was t blank
+  pub after : (t : ℕ) → to ≤ t → get_or now t blank ≡ get_or was t blank
+
+-- what holds of the rows so far and of the next one
+pub row_more : (P : ℕ → Parts → Type 0) (n : ℕ) (rows : List Parts) (row : Parts) → n < length rows
+    → ((k : ℕ) → k < n → P k (get_or rows k blank)) → P n row → (k : ℕ) → k < n + 1 → P k (get_or (set rows n row) k blank)
+row_more P n rows row l h p k q = elim (ℕ_discrete k n) [
+  | yes z ↦ subst (λ k. P k (get_or (set rows n row) k blank)) (sym z) (subst (P n) (sym (get_or-set_same rows n row blank l)) p)
+  | no d ↦ subst (P k) (sym (get_or-set_other rows n k row blank d)) (h k (omega arith))
+]
+
+-- the length of a part that was lent
+pub lent : (from to : ℕ) (was part : List Parts) → from ≤ to → to ≤ length was → length part ≡ length (take (to - from) (drop from was)) → length part ≡ to - from
+lent from to was part l h e =
+    let m : to - from ≤ length (drop from was) = omega (arith, length-drop from was) in
+    e ∙ length-take-le (to - from) (drop from was) m
+
+-- numbers that were entered in a part of a sheet, or at its front
+pub entered : {A : Type 0} (N : Ghosts A) (numbers : List Parts) (from to n : ℕ) (was part : List Parts) → from + n ≡ to → to ≤ length was
+    → length part ≡ length (take (to - from) (drop from was)) → Filled N numbers part → Entered N numbers n from was (put_mid from (to - from) was part)
+entered N numbers from to n was part s h e f =
+    let long = lent from to was part (omega arith) h e in
+    record {
+      rows = λ j k.
+          let p : get_or (put_mid from (to - from) was part) (from + j) blank ≡ get_or part j blank = grind (arith, places) in
+          subst (Written N (at N numbers j)) (sym p) (f j (omega arith));
+      before = λ t k. search (rules, places);
+      after = λ t k. search (rules, places);
+    }
+
+pub entered_front : {A : Type 0} (N : Ghosts A) (numbers : List Parts) (n : ℕ) (was part : List Parts) → n ≤ length was
+    → length part ≡ length (take n was) → Filled N numbers part → Entered N numbers n 0 was (part ++ drop n was)
+entered_front N numbers n was part h e f =
+    let long : length part ≡ n = e ∙ length-take-le n was h in
+    record {
+      rows = λ j k.
+          let z : 0 + j ≡ j = omega arith in
+          let p = ap (λ i. get_or (part ++ drop n was) i blank) z ∙ get_or_append_left part (drop n was) blank j (omega arith) in
+          subst (Written N (at N numbers j)) (sym p) (f j (omega arith));
+      before = λ t k. absurd (omega arith);
+      after = λ t k.
+          let a : n ≤ t = omega arith in
+          search (rules, places);
+    }
+
+-- zeros that were written in a part of a sheet
+pub zeroed : (from to : ℕ) (was part : List Parts) → from ≤ to → to ≤ length was → part ≡ replicate (length (take (to - from) (drop from was))) zero_row
+    → Zeroed from to was (put_mid from (to - from) was part)
+zeroed from to was part l h e =
+    let m : to - from ≤ length (drop from was) = omega (arith, length-drop from was) in
+    let z : part ≡ replicate (to - from) zero_row = e ∙ ap (λ n. replicate n zero_row) (length-take-le (to - from) (drop from was) m) in
+    record {
+      rows = λ t g k. grind (arith, places, z);
+      before = λ t k. search (rules, places);
+      after = λ t k. search (rules, places);
+    }
 
 pub worked_more : {A : Type 0} (N : Ghosts A) (f : ℕ → Formula A (NumberOf N)) (n : ℕ) (rows : List Parts) (k : A) (row : Parts) → n < length rows
     → WorkedRows N f n rows → Outcome N (f n) (Ok k) → row ≡ N.parts k → WorkedRows N f (n + 1) (set rows n row)
-worked_more N f n rows k row l w u e j h =
-    let new = set rows n row in
-    elim (ℕ_discrete j n) [
-      | yes z ↦ subst (λ j. Sound N (f j) × Written N (exact N (f j)) (get_or new j blank)) (sym z)
-          (u.0, (k, u.1, get_or-set_same rows n row blank l ∙ e))
-      | no d ↦
-          let old = w j (omega arith) in
-          (old.0, subst (Written N (exact N (f j))) (sym (get_or-set_other rows n j row blank d)) old.1)
-    ]
+worked_more N f n rows k row l w u e = row_more (λ j r. Sound N (f j) × Written N (exact N (f j)) r) n rows row l w (u.0, (k, u.1, e))

@@ -2,7 +2,6 @@
 -- Assumes nothing.
 --
 --   BeginAnswer, ConfirmAnswer   the stop reached and what the trail holds, or the refusal of the first check that fails and the trail as it was
---   PaidAnswer, RestAnswer       the number asked for, or the refusal of the first check that fails
 --   NextAnswer                   the rows of the next lateness, or the refusal of the first of its numbers that is not held
 use Rattle.std.specs.Prelude.{◌≡◌, ℕ, suc, List, length, Ok, Err, Result}
 use Rattle.numbers.specs.declared.Number.{Ghosts}
@@ -12,7 +11,7 @@ use Rattle.study_terms.specs.declared.faults.kinds.StudyFault.{StudyFault}
 use Rattle.study_terms.specs.declared.sizes.Sizes.{Sizes}
 use Rattle.study_terms.specs.declared.stops.Standing.{Standing}
 use Rattle.study_terms.specs.declared.stops.Departing.{Departing}
-use Rattle.study_terms.specs.Calls.{begin_checks, BeginGranted, next_formula, confirm_checks, ConfirmGranted, paid_checks, paid_at, rest_checks, rest_at, AnswerGranted}
+use Rattle.study_terms.specs.Calls.{begin_checks, BeginGranted, next_formula, confirm_checks, ConfirmGranted}
 use Rattle.study_terms.specs.Checks.{Checks, number, each, RefusedWith}
 use Rattle.study_terms.specs.Formulas.{NumberOf, Formula}
 use Rattle.study_terms.specs.Refusals.{bare, refusal}
@@ -25,15 +24,7 @@ module _ {A : Type 0} (N : Ghosts A) where
   BeginAnswer s start trail trail' (Ok a) = (a.sizes ≡ s) × (a.stop ≡ 0) × BeginGranted N (shape s) start trail trail'
   BeginAnswer s start trail trail' (Err e) = RefusedWith N (begin_checks N (shape s) (length start) (length trail)) (refusal e) × (trail' ≡ trail)
 
-  abbrev pub RestAnswer : Standing → (gains trail : List Parts) → Result A StudyFault → Type 0
-  RestAnswer a gains trail (Ok x) = AnswerGranted N (rest_checks N (shape a.sizes) a.stop gains trail) (rest_at N (shape a.sizes) gains trail a.stop) x
-  RestAnswer a gains trail (Err e) = RefusedWith N (rest_checks N (shape a.sizes) a.stop gains trail) (refusal e)
-
   module _ (m : Meaning A) where
-    abbrev pub PaidAnswer : Standing → List Parts → Result A StudyFault → Type 0
-    PaidAnswer a trail (Ok x) = AnswerGranted N (paid_checks N (shape a.sizes) m a.stop trail) (paid_at N (shape a.sizes) m trail a.stop) x
-    PaidAnswer a trail (Err e) = RefusedWith N (paid_checks N (shape a.sizes) m a.stop trail) (refusal e)
-
     abbrev pub ConfirmAnswer : Departing → (made trail trail' : List Parts) → Result Standing StudyFault → Type 0
     ConfirmAnswer d made trail trail' (Ok a) =
         (a.sizes ≡ d.sizes) × (a.stop ≡ suc d.stop) × ConfirmGranted N (shape d.sizes) m d.stop made trail trail'

@@ -2,9 +2,7 @@
 --
 --   Answered   the answers of the public calls
 --   Rows       what is written into a sheet
---   Terms      what one term adds to a sum that is worked
---   Worked     how forms are worked at any lateness and adjustments
+--   Worked     how forms are worked
 pub mod Answered
 pub mod Rows
-pub mod Terms
 pub mod Worked

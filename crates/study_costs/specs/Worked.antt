@@ -1,22 +1,23 @@
--- How forms are worked at any lateness and adjustments. N is a kind of number with the values A. Assumes nothing.
+-- How forms are worked. N is a kind of number with the values A. Assumes nothing.
 --
---   value_formula N a gains x   the form of P at the stop a, taken at the lateness x
---   cost_formula N s m n u x    the cost of stop n of the line m, taken at the adjustments u and the lateness x
-use Rattle.std.specs.Prelude.{ℕ, suc, List}
-use Rattle.lines.specs.Meaning.{Meaning}
+--   TermWorked N entry x right r   r is the outcome of (entry × x) × y, by whatever formula the entry was worked; `entry` says what it was worked to,
+--                                  and `right` which number y is
+--   Formed N w entry list r        r is the outcome of working a form of order w; `entry` says what each entry was worked to, and `list` which
+--                                  numbers stand in the list at which it is taken
+use Rattle.std.specs.Prelude.{◌≡◌, ℕ, ◌<◌, Result}
 use Rattle.numbers.specs.declared.Number.{Ghosts}
-use Rattle.numbers.specs.declared.Parts.{Parts}
-use Rattle.study_terms.specs.declared.stops.Standing.{Standing}
+use Rattle.study_terms.specs.declared.faults.kinds.Below.{Below}
 use Rattle.study_terms.specs.Calls.{form_formula}
-use Rattle.study_terms.specs.Formulas.{NumberOf, Formula, known, asked}
-use Rattle.study_terms.specs.Shapes.{Shape, width}
-use Rattle.study_terms.specs.Sheets.{value_at, state_list, stacked_list}
-use Rattle.study_terms.specs.Sized.{shape}
+use Rattle.study_terms.specs.Formulas.{NumberOf, Formula, known, times, Outcome}
 
 module _ {A : Type 0} (N : Ghosts A) where
-  abbrev pub value_formula : Standing → List Parts → (ℕ → NumberOf N) → Formula A (NumberOf N)
-  value_formula a gains x =
-      form_formula N (suc a.sizes.states) (λ i j. known (value_at N (shape a.sizes) gains a.stop i j)) (state_list N (shape a.sizes) x)
+  abbrev pub TermWorked : (Result A Below → Type 0) → A → (A → Type 0) → Result A Below → Type 0
+  TermWorked entry x right r =
+      (m : Formula A (NumberOf N)) (y : NumberOf N)
+      → ((o : Result A Below) → entry o → Outcome N m o) → ((k : A) → right k → N.value k ≡ y) → Outcome N (times (times m (known (N.value x))) (known y)) r
 
-  abbrev pub cost_formula : Shape → Meaning A → ℕ → (u x : ℕ → NumberOf N) → Formula A (NumberOf N)
-  cost_formula s m n u x = form_formula N (width s) (λ i j. asked (m.G n i j)) (stacked_list N s u x)
+  abbrev pub Formed : ℕ → (ℕ → ℕ → Result A Below → Type 0) → (ℕ → A → Type 0) → Result A Below → Type 0
+  Formed w entry list r =
+      (M : ℕ → ℕ → Formula A (NumberOf N)) (z : ℕ → NumberOf N)
+      → ((a c : ℕ) (y : Result A Below) → a < w → c < w → entry a c y → Outcome N (M a c) y)
+      → ((k : ℕ) (x : A) → k < w → list k x → N.value x ≡ z k) → Outcome N (form_formula N w M z) r

@@ -1,8 +1,9 @@
 // The trail is begun.
 ghost use Rattle.study_costs.specs.Answered.{BeginAnswer};
 
-use super::rows::{clear, enter};
+use super::rows::enter;
 use numbers::{Number, Parts};
+use study_terms::ZERO;
 use study_terms::faults::StudyFault;
 use study_terms::sizes::Sizes;
 use study_terms::stops::Standing;
@@ -22,8 +23,8 @@ pub fn begin_trail<N: Number + Copy>(
     if trail.len() < need {
         return Err(StudyFault::TrailShort);
     }
-    enter::<N>(start, sizes.states, trail, 0);
+    enter::<N>(start, &mut trail[..sizes.states]);
     // nothing of an earlier study stays in the trail
-    clear(trail, sizes.states, need);
+    trail[sizes.states..need].fill(ZERO);
     Ok(Standing { sizes, stop: 0 })
 }

@@ -29,11 +29,9 @@ pub fn confirm_at<L: Line>(
     }
     // all of it is worked before a row is written, so that a refusal leaves the trail as it was
     let next = next_lateness(at, line, made, trail)?;
-    let from = at.stop * (sizes.states + sizes.inputs) + sizes.states;
-    enter::<L::Number>(made, sizes.inputs, trail, from);
-    enter::<L::Number>(&next, sizes.states, trail, from + sizes.inputs);
-    Ok(Standing {
-        sizes,
-        stop: at.stop + 1,
-    })
+    let from = Standing::from(at).lateness_place() + sizes.states;
+    let between = from + sizes.inputs;
+    enter::<L::Number>(made, &mut trail[from..between]);
+    enter::<L::Number>(&next, &mut trail[between..between + sizes.states]);
+    Ok(at.next())
 }

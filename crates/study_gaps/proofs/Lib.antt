@@ -1,8 +1,6 @@
 -- Lemmas that the proofs of several functions share.
 --
---   Adding      sums of products and of squares, as loops add them
---   Adjusting   the adjustments that a sheet has, as the formulas name them
---   Planning    the plan, worked from the last input to the first
-pub mod Adding
-pub mod Adjusting
+--   Planning   the plan, worked from the last input to the first
+--   Rows       what the row of an input holds, and the sum of the later ones read there
 pub mod Planning
+pub mod Rows

@@ -10,16 +10,18 @@ use Rattle.numbers.specs.declared.Parts.{Parts}
 use Rattle.study_terms.specs.declared.faults.kinds.Below.{Below}
 use Rattle.study_terms.specs.declared.stops.Departing.{Departing}
 use Rattle.study_terms.specs.Checks.{RefusedWith}
-use Rattle.study_terms.specs.Formulas.{NumberOf, Formula, Sound, Outcome, FirstFault}
+use Rattle.study_terms.specs.Formulas.{field, NumberOf, Formula, known, minus, times, sums, Sound, Outcome, FirstFault}
 use Rattle.study_terms.specs.Refusals.{bare}
 use Rattle.study_terms.specs.Sheets.{blank, at, Written}
 use Rattle.study_terms.specs.Sized.{shape}
 use Rattle.study_terms.proofs.GapNumbers.{plan_number}
 use Rattle.study_terms.proofs.KindRows.{Laws, written_reads}
-use Rattle.study_gaps.specs.Steps.{numbers_from, factors_here, lateness_here, planned_here, plan_here, plan_checks, Planned}
-use Rattle.study_gaps.proofs.Adjusting.{plan_reads}
+use Rattle.study_terms.proofs.Working.{sums_ext}
+use Rattle.study_gaps.specs.Steps.{factors_here, lateness_here, planned_here, plan_here, plan_checks, Planned}
 
 module _ {A : Type 0} (N : Ghosts A) (here : Departing) (gains trail : List Parts) where
+  open field N use {𝟘}
+
   abbrev pub number_of : ℕ → Formula A (NumberOf N)
   number_of c = plan_here N here gains trail (planned_here N here gains trail) c
 
@@ -48,13 +50,22 @@ module _ {A : Type 0} (N : Ghosts A) (here : Departing) (gains trail : List Part
       let e : i ≡ nu - suc (nu - suc i) = omega arith in
       (nu - suc i, omega arith, omega arith, (λ j p q. (h.right (nu - suc j) (omega arith) (omega arith)).sound), (b, refl, subst (λ c. FirstFault N (number_of c) b) e f))
 
+  -- an input's number of the plan reads the later adjustments only
+  plan_reads : (i : ℕ) (u v : ℕ → NumberOf N) → ((c : ℕ) → i < c → c < here.sizes.inputs → u c ≡ v c)
+      → plan_here N here gains trail u i ≡ plan_here N here gains trail v i
+  plan_reads i u v h =
+      let r = factors_here N here gains in
+      let nu = here.sizes.inputs in
+      let nx = here.sizes.states in
+      ap (λ f. minus (known 𝟘) (sums f nx (λ j. times (known (r i (nu + j))) (known (lateness_here N here trail j)))))
+      (sums_ext (known (r i (nu + nx))) (nu - suc i) _ _ (λ j l. ap (λ y. times (known (r i (suc i + j))) (known y)) (h (suc i + j) (omega arith) (omega arith))))
+
   -- the number of the next input, after the rows so far
   pub next_number_lem : Laws N → (i : ℕ) (rows : List Parts) (o : Result A Below) → WorkedFrom (suc i) rows
-      → Outcome N (plan_here N here gains trail (numbers_from N rows 0) i) o → Outcome N (number_of i) o
+      → Outcome N (plan_here N here gains trail (at N rows) i) o → Outcome N (number_of i) o
   next_number_lem laws i rows o h u =
-      let reads : (c : ℕ) → i < c → c < here.sizes.inputs → numbers_from N rows 0 c ≡ planned_here N here gains trail c =
-      λ c l q. let z : 0 + c ≡ c = omega arith in ap (at N rows) z ∙ written_reads N laws _ _ (h.right c (omega arith) q).written in
-      subst (λ f. Outcome N f o) (plan_reads N here gains trail i (numbers_from N rows 0) (planned_here N here gains trail) reads) u
+      subst (λ f. Outcome N f o)
+      (plan_reads i (at N rows) (planned_here N here gains trail) (λ c l q. written_reads N laws _ _ (h.right c (omega arith) q).written)) u
 
   pub worked_more : (i : ℕ) (rows : List Parts) (x : A) → i < here.sizes.inputs → WorkedFrom (suc i) rows → Outcome N (number_of i) (Ok x)
       → WorkedFrom i (set rows i (N.parts x))

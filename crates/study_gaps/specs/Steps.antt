@@ -1,8 +1,5 @@
 -- What the steps of the two calls answer. N is a kind of number with the values A, `here` a stop before the last. Assumes nothing.
 --
---   LongSheets s gains trail r                              r says that sheets of these lengths have enough room, or refuses the first that has not
---   numbers_from N t i                                      the numbers that the sheet t has from place i on
---   products N a i b j                                      the products of those of the sheet a from i on and those of b from j on
 --   factors_here N here gains, lateness_here N here trail   the factors and the lateness of the stop
 --   later_here N here gains trail u i, plan_here ..         the sum of input i at the adjustments u, and 0 minus it
 --   gap_here N here gains trail i                           the gap of input i, of the adjustments in the trail
@@ -10,33 +7,20 @@
 --   plan_checks N here gains trail                          what propose checks last: the numbers of the plan, from the last input to the first
 --   Planned N here gains trail rows                         these pass, and the rows are those of the plan
 --   PlanAnswered N here gains trail r                       r is these rows, or the first of the checks that fails
-use Rattle.std.specs.Prelude.{◌≡◌, ℕ, suc, ◌+◌, ◌-◌, ◌<◌, T, ◌⊎◌, List, Ok, Err, Result, nat_le, slice_index_or}
+use Rattle.std.specs.Prelude.{ℕ, suc, ◌-◌, ◌<◌, List, Ok, Err, Result, slice_index_or}
 use Rattle.numbers.specs.declared.Number.{Ghosts}
 use Rattle.numbers.specs.declared.Parts.{Parts}
 use Rattle.study_terms.specs.declared.faults.kinds.StudyFault.{StudyFault}
 use Rattle.study_terms.specs.declared.stops.Departing.{Departing}
 use Rattle.study_terms.specs.Calls.{later_formula, plan_formula, gap_formula, planned}
 use Rattle.study_terms.specs.Checks.{Checks, number, each, Passes, RefusedWith}
-use Rattle.study_terms.specs.Formulas.{field, Formula, known, times}
+use Rattle.study_terms.specs.Formulas.{field, Formula}
 use Rattle.study_terms.specs.Refusals.{bare, refusal}
-use Rattle.study_terms.specs.Shapes.{Shape, gains_need, trail_need}
-use Rattle.study_terms.specs.Sheets.{blank, at, Written, gains_at, x_at, u_at}
+use Rattle.study_terms.specs.Sheets.{blank, Written, gains_at, x_at, u_at}
 use Rattle.study_terms.specs.Sized.{shape}
-
-abbrev pub LongSheets : Shape → ℕ → ℕ → Result Unit StudyFault → Type 0
-LongSheets s gains trail (Ok _) = T (nat_le (gains_need s) gains) × T (nat_le (trail_need s) trail)
-LongSheets s gains trail (Err e) =
-    ((¬ T (nat_le (gains_need s) gains)) × (refusal e ≡ bare 12))
-    ⊎ (T (nat_le (gains_need s) gains) × ((¬ T (nat_le (trail_need s) trail)) × (refusal e ≡ bare 22)))
 
 module _ {A : Type 0} (N : Ghosts A) where
   open field N use {Car}
-
-  abbrev pub numbers_from : List Parts → ℕ → ℕ → Car
-  numbers_from t i n = at N t (i + n)
-
-  abbrev pub products : List Parts → ℕ → List Parts → ℕ → ℕ → Formula A Car
-  products a i b j n = times (known (numbers_from a i n)) (known (numbers_from b j n))
 
   module _ (here : Departing) where
     abbrev pub factors_here : List Parts → ℕ → ℕ → Car

@@ -2,10 +2,9 @@
 
 // The plan at a stop and the excess of the adjustments made: both are worked with gaps, an adjustment plus the sum that its factors
 // make of what comes after it.
-mod checks;
 mod excess;
+mod input;
 mod later;
-mod places;
 mod plan;
 mod propose;
 

@@ -1,27 +1,22 @@
 // The plan at a stop: the adjustments without a gap.
-ghost use Rattle.std.specs.Prelude.{◌<◌};
 ghost use Rattle.study_terms.specs.Formulas.{Outcome};
-ghost use Rattle.study_gaps.specs.Steps.{numbers_from, plan_here, PlanAnswered};
+ghost use Rattle.study_terms.specs.Sheets.{at};
+ghost use Rattle.study_gaps.specs.Steps.{plan_here, PlanAnswered};
 
-use super::later::later_sum;
+use super::input::Input;
 use numbers::{Number, Parts};
 use study_terms::faults::{Below, StudyFault};
 use study_terms::stops::Departing;
 use study_terms::{ZERO, zero};
 
-// The adjustment of an input that leaves no gap, after the later ones in `plan`: 0 minus what its factors make of them.
-fn without_gap<N: Number + Copy>(
-    here: Departing,
-    input: usize,
-    gains: &[Parts],
-    plan: &[Parts],
-    trail: &[Parts],
-) -> Result<N, Below>
-    requires { input < here.sizes.inputs }
-    ensures { Outcome N.Number (plan_here N.Number here gains.now trail.now (numbers_from N.Number plan.now 0) input) result }
-{
-    let sum = later_sum::<N>(here, input, gains, plan, 0, trail)?;
-    Ok(zero::<N>().minus(sum)?)
+impl Input<'_> {
+    // The adjustment that leaves no gap, after the later ones in `plan`: 0 minus what the factors make of them.
+    fn without_gap<N: Number + Copy>(&self, plan: &[Parts]) -> Result<N, Below>
+        ensures { Outcome N.Number (plan_here N.Number self.now.here self.now.gains.now self.now.trail.now (at N.Number plan.now) self.now.index) result }
+    {
+        let sum = self.later_sum::<N>(plan)?;
+        Ok(zero::<N>().minus(sum)?)
+    }
 }
 
 // The rows of the plan, worked from the last input to the first.
@@ -33,11 +28,17 @@ pub(super) fn plan_rows<N: Number + Copy>(
     ensures { PlanAnswered N.Number here gains.now trail.now result }
 {
     let mut plan = [ZERO; 3];
-    for i in (0..here.sizes.inputs).rev() {
-        match without_gap::<N>(here, i, gains, &plan, trail) {
-            Ok(x) => plan[i] = x.row(),
-            Err(_) => return Err(StudyFault::PlanTooLarge),
-        }
+    for index in (0..here.sizes.inputs).rev() {
+        let input = Input {
+            here,
+            index,
+            gains,
+            trail,
+        };
+        let adjustment: N = input
+            .without_gap(&plan)
+            .map_err(|_| StudyFault::PlanTooLarge)?;
+        plan[index] = adjustment.row();
     }
     Ok(plan)
 }

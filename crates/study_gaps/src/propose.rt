@@ -1,7 +1,6 @@
 // The call that proposes adjustments.
 ghost use Rattle.study_gaps.specs.Answered.{Proposed};
 
-use super::checks::check_sheets;
 use super::plan::plan_rows;
 use numbers::{Number, Parts};
 use study_terms::faults::StudyFault;
@@ -17,17 +16,11 @@ pub fn propose_at<N: Number + Copy>(
 ) -> Result<Departing, StudyFault>
     ensures { Proposed N.Number at gains.now trail.now slip.old slip.new result }
 {
-    if at.stop == at.sizes.stops {
-        return Err(StudyFault::AtTheEnd);
-    }
-    check_sheets(at.sizes, gains, trail)?;
+    let here = at.departing().ok_or(StudyFault::AtTheEnd)?;
+    at.sizes.check_sheets(gains, trail)?;
     if slip.len() != at.sizes.inputs {
         return Err(StudyFault::SlipLength);
     }
-    let here = Departing {
-        sizes: at.sizes,
-        stop: at.stop,
-    };
     let plan = plan_rows::<N>(here, gains, trail)?;
     slip.copy_from_slice(&plan[..at.sizes.inputs]);
     Ok(here)

@@ -7,8 +7,7 @@ use Rattle.study_terms.specs.declared.faults.kinds.StudyFault.{StudyFault}
 use Rattle.study_terms.specs.Formulas.{NumberOf}
 use Rattle.study_terms.specs.Checks.{Checks, RefusedWith}
 use Rattle.study_terms.specs.Refusals.{refusal}
-use Rattle.study_terms.specs.Calls.{AnswerGranted}
-use Rattle.study.specs.Promises.{AnswerPromise}
+use Rattle.study_terms.specs.Calls.{AnswerGranted, AnswerPromise}
 use Rattle.study_theory.specs.Runs.{Stage, Call, Reply, Ledger, World, Allowed, Asks, Step, refuses}
 use Rattle.study_theory.specs.Runs as runs
 use Rattle.study_runs.specs.declared.commands.Command.{Command}

@@ -1,5 +1,5 @@
 -- How a formula is worked, one operation after the other. Assumes nothing.
-use Rattle.std.proofs.Common.{◌≡◌, ℕ, zero, suc, ◌+◌, ◌<◌, ◌≤◌, ◌≢◌, IsErrAnd, Ok, Err, Result, sym, refl, ap, ◌∙◌, subst, ap₂, inl, inr, arith}
+use Rattle.std.proofs.Common.{◌≡◌, ℕ, zero, suc, ◌+◌, ◌<◌, ◌≤◌, ◌≢◌, IsErrAnd, MatchResult, Ok, Err, Result, sym, refl, ap, ◌∙◌, subst, ap₂, inl, inr, arith}
 use native.Mathlib.Decide.{ℕ_discrete}
 use Rattle.std.proofs.lemmas.Result.{err_from_is_err_and}
 use Rattle.numbers.specs.declared.Number.{Ghosts}
@@ -10,6 +10,11 @@ use Rattle.lines.specs.Meaning.{Entry, holds, marked}
 use Rattle.lines.specs.declared.faults.Mark.{Mark}
 use Rattle.study_terms.specs.declared.faults.kinds.Below.{Below}
 use Rattle.study_terms.specs.declared.faults.kinds.Below.TheVariants.{TooLarge, Marked}
+use Rattle.study_terms.specs.declared.faults.kinds.StudyFault.{StudyFault}
+use Rattle.study_terms.specs.declared.faults.kinds.StudyFault.TheVariants.{AnswerTooLarge}
+use Rattle.study_terms.specs.Calls.{AnswerPromise}
+use Rattle.study_terms.specs.Checks.{Checks, number, Passes, RefusedWith}
+use Rattle.study_terms.specs.Refusals.{bare, refusal}
 use Rattle.study_terms.specs.Formulas.{field, Formula, known, asked, plus, minus, times, over, sums, exact, Holds, Divides, Sound, FirstFault, Outcome}
 
 -- equal terms make equal sums
@@ -93,25 +98,18 @@ module _ {A : Type 0} (N : Ghosts A) where
   pub exits : (f : Formula A Car) (r : Result A Below) (b : Below) → IsErrAnd r (λ y. y ≡ b) → FirstFault N f b → Outcome N f r
   exits f r b h u = let p = err_from_is_err_and r h in subst (Outcome N f) (sym p.1) (subst (FirstFault N f) (sym p.2) u)
 
-  -- a sum that begins with a worked number goes on as from that number at hand
-  module _ (s : Formula A Car) (t : A) (u : Outcome N s (Ok t)) (f : ℕ → Formula A Car) where
-    exact_after : (n : ℕ) → exact N (sums (known (N.value t)) n f) ≡ exact N (sums s n f)
-    exact_after zero = u.1
-    exact_after (suc n) = ap (λ x. x ⊕ exact N (f n)) (exact_after n)
+  -- the fault below is named by a fault of the study, whatever it is
+  pub named : (f : Formula A Car) (e : StudyFault) (r : Result A Below) (r' : Result A StudyFault) (P : Below → StudyFault → Type 0)
+      → MatchResult r (λ x. r' ≡ Ok x) (λ b. IsErrAnd r' (P b)) → ((b : Below) (y : StudyFault) → P b y → y ≡ e) → Outcome N f r
+      → MatchResult r' (λ x. Outcome N f (Ok x)) (λ y. (y ≡ e) × ((b : Below) × FirstFault N f b))
+  named f e (Ok x) r' P h n u = subst (λ r. MatchResult r (λ x. Outcome N f (Ok x)) (λ y. (y ≡ e) × ((b : Below) × FirstFault N f b))) (sym h) u
+  named f e (Err b) r' P h n u =
+      let p = err_from_is_err_and r' h in
+      subst (λ r. MatchResult r (λ x. Outcome N f (Ok x)) (λ y. (y ≡ e) × ((b : Below) × FirstFault N f b))) (sym p.1) (n b p.0 p.2, (b, u))
 
-    held_after : (n : ℕ) → Holds N (exact N (sums (known (N.value t)) (suc n) f)) → Holds N (exact N (sums s (suc n) f))
-    held_after n h = (h.0, h.1 ∙ exact_after (suc n))
-
-    sound_after : (n : ℕ) → Sound N (sums (known (N.value t)) n f) → Sound N (sums s n f)
-    sound_after zero h = u.0
-    sound_after (suc n) h = (sound_after n h.0, h.1, held_after n h.2)
-
-    fault_after : (n : ℕ) (b : Below) → FirstFault N (sums (known (N.value t)) n f) b → FirstFault N (sums s n f) b
-    fault_after zero b h = absurd h
-    fault_after (suc n) b (inl h) = inl (fault_after n b h)
-    fault_after (suc n) b (inr (inl h)) = inr (inl (sound_after n h.0, h.1))
-    fault_after (suc n) b (inr (inr h)) = inr (inr (sound_after n h.0, h.1, (λ k. h.2 (k.0, k.1 ∙ sym (exact_after (suc n)))), h.3))
-
-    pub sums_after : (n : ℕ) (r : Result A Below) → Outcome N (sums (known (N.value t)) n f) r → Outcome N (sums s n f) r
-    sums_after n (Ok x) h = (sound_after n h.0, h.1 ∙ exact_after n)
-    sums_after n (Err b) h = fault_after n b h
+  -- the answer of a call whose last check is a number of this formula
+  pub answered : (c : Checks A Car) (f : Formula A Car) (y : Car) → exact N f ≡ y → (Sound N f → Passes N c)
+      → (RefusedWith N (number (λ _. bare 51) f) (bare 51) → RefusedWith N c (bare 51))
+      → (r' : Result A StudyFault) → MatchResult r' (λ x. Outcome N f (Ok x)) (λ y. (y ≡ AnswerTooLarge) × ((b : Below) × FirstFault N f b)) → AnswerPromise N c y r'
+  answered c f y e pass fail (Ok x) h = record { passes = pass h.0; answer = h.1 ∙ e }
+  answered c f y e pass fail (Err t) h = subst (RefusedWith N c) (sym (ap refusal h.0)) (fail (h.1.0, refl, h.1.1))

@@ -13,16 +13,18 @@
 --                                                  41 adjustments length, 61 before the end; and 32, 42, 51 for a number that is too large
 --   BeginGranted, ProposeGranted, ConfirmGranted   what a granted call leaves
 --   AnswerGranted c y x                            the checks c pass, and the answer x means the number y
-use Rattle.std.specs.Prelude.{◌≡◌, ℕ, zero, suc, ◌+◌, ◌-◌, ◌<◌, ◌≤◌, not, List, length, ◌==◌, nat_le, slice_index_or}
+--   AnswerPromise c y r                            a question that makes the checks c answers the number y, or refuses
+use Rattle.std.specs.Prelude.{◌≡◌, ℕ, zero, suc, ◌+◌, ◌-◌, ◌<◌, ◌≤◌, not, List, length, ◌==◌, nat_le, slice_index_or, Result, MatchResult}
 use Rattle.control.specs.Elimination.{gap_by, fill_by}
 use Rattle.control.specs.Line.{next, stage_cost}
 use Rattle.control.specs.Matrix.{sum, form}
 use Rattle.numbers.specs.declared.Number.{Ghosts}
 use Rattle.numbers.specs.declared.Parts.{Parts}
 use Rattle.lines.specs.Meaning.{Meaning}
-use Rattle.study_terms.specs.Checks.{Checks, test, number, each, ◌then◌, Passes}
+use Rattle.study_terms.specs.declared.faults.kinds.StudyFault.{StudyFault}
+use Rattle.study_terms.specs.Checks.{Checks, test, number, each, ◌then◌, Passes, RefusedWith}
 use Rattle.study_terms.specs.Formulas.{field, Formula, known, asked, plus, minus, times, sums, exact}
-use Rattle.study_terms.specs.Refusals.{bare}
+use Rattle.study_terms.specs.Refusals.{bare, refusal}
 use Rattle.study_terms.specs.Shapes.{Shape, shape_of, same_shape, width, gains_need, trail_need}
 use Rattle.study_terms.specs.Sheets.{blank, zero_row, at, Written, exact_line, x_place, u_place, gains_at, value_at, x_at, u_at, state_list, stacked_list, Surplus}
 
@@ -148,3 +150,6 @@ module _ {A : Type 0} (N : Ghosts A) where
   pub record AnswerGranted (c : Checks A Car) (y : Car) (x : A) : Type 0 where
     pub passes : Passes N c
     pub answer : N.value x ≡ y
+
+  abbrev pub AnswerPromise : Checks A Car → Car → Result A StudyFault → Type 0
+  AnswerPromise c y r = MatchResult r (λ x. AnswerGranted c y x) (λ e. RefusedWith N c (refusal e))

@@ -1,6 +1,6 @@
 // Numbers read from sheets.
 ghost use Rattle.std.specs.Prelude.{◌≡◌};
-ghost use Rattle.algebra.specs.Exact.{zero_e};
+ghost use Rattle.algebra.specs.Exact.{zero_e, one_e};
 ghost use Rattle.study_terms.specs.Sheets.{at};
 
 use numbers::{Number, Parts};
@@ -12,18 +12,22 @@ pub const ZERO: Parts = Parts { p: 0, q: 0, m: 1 };
 pub fn zero<N: Number>() -> N
     ensures { N.Number.value result ≡ zero_e N.Number.radicand }
 {
-    match N::whole(0) {
-        Ok(x) => x,
-        Err(_) => unreachable(),
-    }
+    N::whole(0).unwrap()
+}
+
+// The number 1 of a kind.
+pub fn one<N: Number>() -> N
+    ensures { N.Number.value result ≡ one_e N.Number.radicand }
+{
+    N::whole(1).unwrap()
 }
 
 // The number that a sheet means at a place; past its end it means 0.
 pub fn number_at<N: Number>(sheet: &[Parts], place: usize) -> N
     ensures { N.Number.value result ≡ at N.Number sheet.now place }
 {
-    if place < sheet.len() {
-        return N::read(sheet[place]);
+    match sheet.get(place) {
+        Some(row) => N::read(*row),
+        None => zero(),
     }
-    zero()
 }

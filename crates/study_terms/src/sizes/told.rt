@@ -1,10 +1,13 @@
 // The sizes that a line tells, and the room that sheets of these sizes need.
-ghost use Rattle.std.specs.Prelude.{◌≡◌, suc, ◌+◌, T, MatchOption};
+ghost use Rattle.std.specs.Prelude.{◌≡◌, suc, ◌+◌, T, MatchOption, length};
 ghost use Rattle.study_terms.specs.Sized.{shape};
+ghost use Rattle.study_terms.specs.Room.{LongSheets};
 ghost use Rattle.study_terms.specs.Shapes.{shape_of, in_limits, same_shape, width, gains_need, scratch_need, trail_need};
 
 use super::Sizes;
+use crate::faults::StudyFault;
 use lines::line::Line;
+use numbers::Parts;
 
 impl Sizes {
     // The sizes of a line, where they are within the limits.
@@ -59,5 +62,17 @@ impl Sizes {
         ensures { result ≡ trail_need (shape self) }
     {
         self.stops * (self.states + self.inputs) + self.states
+    }
+    // Whether a gains sheet and a trail have this room.
+    pub fn check_sheets(self, gains: &[Parts], trail: &[Parts]) -> Result<(), StudyFault>
+        ensures { LongSheets (shape self) (length gains.now) (length trail.now) result }
+    {
+        if gains.len() < self.gains_length() {
+            return Err(StudyFault::GainsShort);
+        }
+        if trail.len() < self.trail_length() {
+            return Err(StudyFault::TrailShort);
+        }
+        Ok(())
     }
 }

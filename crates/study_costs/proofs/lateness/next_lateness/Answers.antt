@@ -1,20 +1,13 @@
-use Rattle.std.proofs.Common.{◌≡◌, ℕ, ◌<◌, List, length, Err, refl, ◌∙◌, subst, arith}
+use Rattle.std.proofs.Common.{◌≡◌, ◌<◌, length, refl, ap, ◌∙◌, subst, arith, rules}
 use Rattle.std.proofs.lemmas.List.{length-set}
-use Rattle.numbers.specs.declared.Parts.{Parts}
-use Rattle.study_terms.specs.declared.stops.Departing.{Departing}
-use Rattle.study_terms.specs.Calls.{next_formula}
-use Rattle.study_terms.specs.Formulas.{NumberOf, Formula, Outcome}
-use Rattle.study_terms.specs.Sheets.{at, x_at}
-use Rattle.study_terms.specs.Sized.{shape}
+use Rattle.std.proofs.lemmas.Result.{err_from_is_err_and}
+use Rattle.study_terms.specs.declared.faults.kinds.StudyFault.TheVariants.{NextTooLarge}
+use Rattle.study_terms.specs.Refusals.{refusal}
+use Rattle.study_terms.proofs.Working.{named}
+use Rattle.study_costs.specs.Answered.{next_number_lem}
 use Rattle.study_costs.specs.Rows.{WorkedRows}
 use Rattle.study_costs.proofs.SheetRows.{worked_more}
-use Rattle.study_costs.proofs.TrailParts.{lateness_read}
-use Rattle.study_costs.proofs.lateness.next_lateness.Given as given
 use Rattle.study_costs.proofs.lateness.next_lateness.Goals as goal
-
--- the numbers of the next lateness, from the lateness x
-abbrev numbers : (g : given.Over) → g.row.L.Denot → Departing → List Parts → (ℕ → NumberOf g.L.Number.Number) → ℕ → Formula g.row.L-Number.Denot (NumberOf g.L.Number.Number)
-numbers g line d made x j = next_formula g.L.Number.Number (shape d.sizes) (g.L.Line.meaning line) d.stop j (at g.L.Number.Number made) x
 
 pub loop-j-init : goal.loop-j-init
 loop-j-init g c = (refl, λ j l. absurd (omega arith))
@@ -22,29 +15,28 @@ loop-j-init g c = (refl, λ j l. absurd (omega arith))
 pub loop-j-preserved : goal.loop-j-preserved
 loop-j-preserved g c =
     let N = g.L.Number.Number in
+    let f = next_number_lem N (g.L.Line.meaning c.args.line.now) c.args.at c.args.made.now c.args.trail.now in
     let few = c.args.at.sizes.few_states in
     let long = c.loop-j.invariant.0 in
-    let l : c.loop-j.j < length c.loop-j.rows = omega arith in (
+    let l : c.loop-j.j < length c.loop-j.rows = omega arith in
+    let held = rw c.in_ok-number.was at
+    (named N (f c.loop-j.j) NextTooLarge c.next_number.result c.map_err.result _ c.map_err.ensures.cases (λ b y p. search rules) c.next_number.ensures) in (
       length-set c.loop-j.rows c.loop-j.j c.row.result ∙ long,
-      worked_more N (numbers g c.args.line.now c.args.at c.args.made.now (at N c.from_lateness-lateness.result.now)) c.loop-j.j c.loop-j.rows
-          c.in-Ok.x c.row.result l c.loop-j.invariant.1 c.in-Ok.ensures c.row.ensures,
+      worked_more N f c.loop-j.j c.loop-j.rows c.in_ok-number.number c.row.result l c.loop-j.invariant.1 held c.row.ensures,
     )
 
-pub returns-in-Err : goal.returns-in-Err
-returns-in-Err g c =
+pub returns-in_err-number : goal.returns-in_err-number
+returns-in_err-number g c =
     let N = g.L.Number.Number in
-    let f = numbers g c.args.line.now c.args.at c.args.made.now in
-    let b = c.in-Err.field-0 in
-    let e = lateness_read N (shape c.args.at.sizes) c.args.trail.now c.args.at.stop c.from_lateness-lateness.result.now c.from_lateness-lateness.ensures in
-    let w = subst (λ x. WorkedRows N (f x) c.loop-j.j c.loop-j.rows) e c.loop-j.invariant.1 in
-    let h = subst (λ x. Outcome N (f x c.loop-j.j) (Err b)) e c.in-Err.ensures in
-    (c.loop-j.j, omega arith, c.loop-j-test.true, (λ i _ l. (w i l).0), (b, refl, h))
+    let f = next_number_lem N (g.L.Line.meaning c.args.line.now) c.args.at c.args.made.now c.args.trail.now in
+    let h = rw c.in_err-number.was at
+    (named N (f c.loop-j.j) NextTooLarge c.next_number.result c.map_err.result _ c.map_err.ensures.cases (λ b y p. search rules) c.next_number.ensures) in
+    let p = err_from_is_err_and c.from_residual.result c.from_residual.ensures.1 in
+    rw (p.1, p.2) (c.loop-j.j, omega arith, c.loop-j-test.true, (λ i _ l. (c.loop-j.invariant.1 i l).0), (h.1.0, ap refusal h.0, h.1.1))
 
 pub returns : goal.returns
 returns g c =
     let N = g.L.Number.Number in
-    let f = numbers g c.args.line.now c.args.at c.args.made.now in
-    let e = lateness_read N (shape c.args.at.sizes) c.args.trail.now c.args.at.stop c.from_lateness-lateness.result.now c.from_lateness-lateness.ensures in
+    let f = next_number_lem N (g.L.Line.meaning c.args.line.now) c.args.at c.args.made.now c.args.trail.now in
     let n : c.loop-j.j ≡ c.args.at.sizes.states = omega arith in
-    subst (λ n. WorkedRows N (f (x_at N (shape c.args.at.sizes) c.args.trail.now c.args.at.stop)) n c.loop-j.rows) n
-    (subst (λ x. WorkedRows N (f x) c.loop-j.j c.loop-j.rows) e c.loop-j.invariant.1)
+    subst (λ n. WorkedRows N f n c.loop-j.rows) n c.loop-j.invariant.1

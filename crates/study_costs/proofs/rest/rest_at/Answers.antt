@@ -1,30 +1,25 @@
-use Rattle.std.proofs.Common.{Ok, Err, refl, ◌∙◌, subst, inr}
-use Rattle.study_terms.specs.Formulas.{Outcome}
+use Rattle.std.proofs.Common.{inl, inr, rules}
+use Rattle.std.proofs.lemmas.Result.{err_from_is_err_and}
+use Rattle.study_terms.specs.declared.faults.kinds.StudyFault.TheVariants.{AnswerTooLarge}
+use Rattle.study_terms.specs.Calls.{rest_formula, rest_at, rest_checks}
 use Rattle.study_terms.specs.Sized.{shape}
 use Rattle.study_terms.proofs.FormNumbers.{rest_number}
-use Rattle.study_costs.specs.Worked.{value_formula}
-use Rattle.study_costs.proofs.Tested.{long_enough}
-use Rattle.study_costs.proofs.TrailParts.{lateness_read}
+use Rattle.study_terms.proofs.Working.{named, answered}
 use Rattle.study_costs.proofs.rest.rest_at.Goals as goal
 
-pub returns-in-Ok : goal.returns-in-Ok
-returns-in-Ok g c =
-    let N = g.N.Number in
-    let s = shape c.args.at.sizes in
-    let trail = c.args.trail.now in
-    let e = lateness_read N s trail c.args.at.stop c.from_lateness.result.now c.from_lateness.ensures in
-    let h = subst (λ x. Outcome N (value_formula N c.args.at c.args.gains.now x) (Ok c.in-Ok.x)) e c.in-Ok.ensures in
-    record {
-      passes = ((long_enough _ _ _ c.gains_length.ensures c.if-gains-gains_length.false, long_enough _ _ _ c.trail_length.ensures c.if-trail-trail_length.false), h.0);
-      answer = h.1 ∙ rest_number N s c.args.gains.now trail c.args.at.stop;
-    }
+pub returns-in_err-check_sheets : goal.returns-in_err-check_sheets
+returns-in_err-check_sheets g c =
+    let p = err_from_is_err_and c.from_residual.result c.from_residual.ensures.1 in
+    rw (p.1, p.2) (inl c.in_err-check_sheets.ensures)
 
-pub returns-in-Err : goal.returns-in-Err
-returns-in-Err g c =
+pub returns : goal.returns
+returns g c =
     let N = g.N.Number in
     let s = shape c.args.at.sizes in
+    let gains = c.args.gains.now in
     let trail = c.args.trail.now in
-    let e = lateness_read N s trail c.args.at.stop c.from_lateness.result.now c.from_lateness.ensures in
-    let b = c.in-Err.field-0 in
-    let h = subst (λ x. Outcome N (value_formula N c.args.at c.args.gains.now x) (Err b)) e c.in-Err.ensures in
-    inr ((long_enough _ _ _ c.gains_length.ensures c.if-gains-gains_length.false, long_enough _ _ _ c.trail_length.ensures c.if-trail-trail_length.false), (b, refl, h))
+    let n = c.args.at.stop in
+    let long = c.in_ok-check_sheets.ensures in
+    let f = rest_formula N s gains trail n in
+    answered N (rest_checks N s n gains trail) f (rest_at N s gains trail n) (rest_number N s gains trail n) (λ h. (long, h)) (λ h. inr (long, h)) c.map_err.result
+    (named N f AnswerTooLarge c.value_form.result c.map_err.result _ c.map_err.ensures.cases (λ b y p. search rules) c.value_form.ensures)

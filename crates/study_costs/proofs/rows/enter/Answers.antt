@@ -1,8 +1,13 @@
 use Rattle.std.proofs.Common.{arith}
-use Rattle.study_costs.proofs.SheetRows.{entered_more}
+use Rattle.study_terms.specs.Sheets.{at, Written}
+use Rattle.study_costs.proofs.SheetRows.{row_more}
 use Rattle.study_costs.proofs.rows.enter.Goals as goal
 
 pub loop-j-preserved : goal.loop-j-preserved
 loop-j-preserved g c =
-    entered_more g.N.Number c.args.numbers.now c.loop-j.j c.args.from c.args.sheet.now c.loop-j.sheet c.row.result (omega arith)
-    c.loop-j.invariant (c.number_at-number.result, c.number_at-number.ensures, c.row.ensures)
+    let N = g.N.Number in
+    row_more (λ k r. Written N (at N c.args.numbers.now k) r) c.loop-j.j c.loop-j.rows c.row.result (omega arith)
+    c.loop-j.invariant (c.number_at.result, c.number_at.ensures, c.row.ensures)
+
+pub returns : goal.returns
+returns g c j l = c.loop-j.invariant j (omega arith)

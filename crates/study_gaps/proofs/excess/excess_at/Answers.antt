@@ -1,7 +1,10 @@
-use Rattle.std.proofs.Common.{refl, ◌∙◌, inl, inr}
+use Rattle.std.proofs.Common.{inl, inr, rules}
 use Rattle.std.proofs.lemmas.Result.{err_from_is_err_and}
+use Rattle.study_terms.specs.declared.faults.kinds.StudyFault.TheVariants.{AnswerTooLarge}
+use Rattle.study_terms.specs.Calls.{excess_formula, excess_at, excess_checks}
 use Rattle.study_terms.specs.Sized.{shape}
 use Rattle.study_terms.proofs.GapNumbers.{excess_number}
+use Rattle.study_terms.proofs.Working.{named, answered}
 use Rattle.study_gaps.proofs.excess.excess_at.Goals as goal
 
 pub returns-in_err-check_sheets : goal.returns-in_err-check_sheets
@@ -9,13 +12,14 @@ returns-in_err-check_sheets g c =
     let p = err_from_is_err_and c.from_residual.result c.from_residual.ensures.1 in
     rw (p.1, p.2) (inl c.in_err-check_sheets.ensures)
 
-pub returns-in-Ok : goal.returns-in-Ok
-returns-in-Ok g c =
-    let h = c.in-Ok.ensures in
-    record {
-      passes = (c.in_ok-check_sheets.ensures, h.0);
-      answer = h.1 ∙ excess_number g.N.Number (shape c.args.at.sizes) c.args.gains.now c.args.trail.now c.args.at.stop;
-    }
-
-pub returns-in-Err : goal.returns-in-Err
-returns-in-Err g c = inr (c.in_ok-check_sheets.ensures, (c.in-Err.field-0, refl, c.in-Err.ensures))
+pub returns : goal.returns
+returns g c =
+    let N = g.N.Number in
+    let s = shape c.args.at.sizes in
+    let gains = c.args.gains.now in
+    let trail = c.args.trail.now in
+    let n = c.args.at.stop in
+    let long = c.in_ok-check_sheets.ensures in
+    answered N (excess_checks N s n gains trail) (excess_formula N s gains trail n) (excess_at N s gains trail n) (excess_number N s gains trail n)
+    (λ h. (long, h)) (λ h. inr (long, h)) c.map_err.result
+    (named N (excess_formula N s gains trail n) AnswerTooLarge c.excess_before.result c.map_err.result _ c.map_err.ensures.cases (λ b y p. search rules) c.excess_before.ensures)
