@@ -1,5 +1,6 @@
 -- How each call, granted or refused, goes on a run. Assumes nothing.
-use Rattle.std.proofs.Common.{◌≡◌, List, Ok, Err, Result, sym, refl, subst, inl, inr, MatchResult}
+use Rattle.std.proofs.Common.{◌≡◌, ℕ, List, ◌++◌, length, take, drop, ◌∙◌, Ok, Err, Result, sym, refl, ap, subst, inl, inr, MatchResult}
+use Rattle.std.proofs.lemmas.List.{take_at}
 use Rattle.numbers.specs.declared.Number.{Ghosts}
 use Rattle.numbers.specs.declared.Parts.{Parts}
 use Rattle.lines.specs.Meaning.{Meaning}
@@ -7,15 +8,19 @@ use Rattle.study_terms.specs.declared.faults.kinds.StudyFault.{StudyFault}
 use Rattle.study_terms.specs.Formulas.{NumberOf}
 use Rattle.study_terms.specs.Checks.{Checks, RefusedWith}
 use Rattle.study_terms.specs.Refusals.{refusal}
+use Rattle.study_terms.specs.Sized.{shape}
 use Rattle.study_terms.specs.Calls.{AnswerGranted, AnswerPromise}
 use Rattle.study_theory.specs.Runs.{Stage, Call, Reply, Ledger, World, Allowed, Asks, Step, refuses}
 use Rattle.study_theory.specs.Runs as runs
+use Rattle.study.specs.declared.states.Underway.{Underway}
+use Rattle.study.specs.Stages.{underway_stage}
+use Rattle.study_runs.specs.declared.performing.Study.{Study}
 use Rattle.study_runs.specs.declared.commands.Command.{Command}
 use Rattle.study_runs.specs.declared.answers.Answer.{Answer}
-use Rattle.study_runs.specs.declared.answers.Answer.TheVariants.{Told, Refused, NotNow}
+use Rattle.study_runs.specs.declared.answers.Answer.TheVariants.{Stands, Told, Refused, NotNow}
 use Rattle.study_runs.specs.Telling.{Makes, Tells, name_of}
 use Rattle.study_runs.specs.Performing.{Steps}
-use Rattle.study_runs.specs.Going.{world, Goes}
+use Rattle.study_runs.specs.Going.{stage_of, Stood, world, Goes}
 
 module _ {A : Type 0} (N : Ghosts A) (m : Meaning A) where
   -- a step, where the command and the stage after it are known by equations
@@ -35,6 +40,16 @@ module _ {A : Type 0} (N : Ghosts A) (m : Meaning A) where
           tells = t.2;
         }),
       ))
+
+  -- a step to a stop, which the answer tells
+  pub goes_stands : (command d : Command) (stage target : Stage) (u : Underway A) (study : Study A) (a : Answer A) (gains trail trail' : List Parts) (c : Call)
+      → command ≡ d → underway_stage u ≡ target → Makes d c → Stood u trail' study a
+      → ((l : Ledger (NumberOf N)) → (l' : Ledger (NumberOf N)) × Step N m (world N stage gains trail l) (world N target gains trail' l') c runs.done)
+      → Goes N m command a stage (stage_of study) gains gains trail trail'
+  goes_stands command d stage target u study a gains trail trail' c ec es made st f =
+      subst (λ a. Goes N m command a stage (stage_of study) gains gains trail trail') (sym st.1.1)
+      (goes_on command d (Stands u.at.stop st.1.0) stage (stage_of study) target gains gains trail trail' c runs.done ec (ap stage_of st.0 ∙ es) made
+      (λ l. let t = f l in (t.0, t.1, (refl, (shape u.at.sizes, sym es, st.1.2)))))
 
   -- a refusal hands the study and its sheets back
   pub goes_refused : (command d : Command) (stage stage' : Stage) (gains gains' trail trail' : List Parts) (c : Call) (e : StudyFault) (checks : Checks A (NumberOf N))
@@ -62,3 +77,17 @@ module _ {A : Type 0} (N : Ghosts A) (m : Meaning A) where
   goes_asked command d stage gains trail c checks y (Err q) a ec made asks f h e =
       subst (λ a. Goes N m command a stage stage gains gains trail trail) (sym e)
       (goes_refused command d stage stage gains gains trail trail c q checks ec refl refl refl made asks h)
+
+  -- the same, of a stage and sheets that are known by equations
+  pub goes_in : (command : Command) (a : Answer A) (stage study stage' : Stage) (gains g gains' g' trail t trail' t' : List Parts)
+      → study ≡ stage → g ≡ gains → g' ≡ gains' → t ≡ trail → t' ≡ trail' → Goes N m command a study stage' g g' t t' → Goes N m command a stage stage' gains gains' trail trail'
+  goes_in command a stage study stage' gains g gains' g' trail t trail' t' es eg eg' et et' h =
+      subst (λ x. Goes N m command a x stage' gains gains' trail trail') es
+      (subst (λ x. Goes N m command a study stage' x gains' trail trail') eg
+      (subst (λ x. Goes N m command a study stage' g x trail trail') eg'
+      (subst (λ x. Goes N m command a study stage' g g' x trail') et
+      (subst (λ x. Goes N m command a study stage' g g' t x) et' h))))
+
+-- a sheet that was lent as a slice, and written
+pub written_back : (len : ℕ) (old now : List Parts) → len ≡ length old → length now ≡ length old → now ≡ take len (now ++ drop (length now) old)
+written_back len old now e l = sym (take_at now _ len (l ∙ sym e))

@@ -2,7 +2,7 @@
 use numbers::Parts;
 use study_terms::faults::StudyFault;
 
-// At most four rows: the lateness or the adjustments of a stop.
+// At most four rows: the lateness or the adjustments of a stop. They lie in place, so that no answer wants memory.
 #[derive(Clone, Copy)]
 pub struct Few {
     pub rows: [Parts; 4],

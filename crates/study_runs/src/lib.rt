@@ -6,5 +6,6 @@ pub mod commands;
 mod copying;
 mod performing;
 mod running;
+mod sheets;
 
 pub use running::perform;

@@ -1,12 +1,13 @@
 // One command: the call that it makes, where the state of the study allows it.
-ghost use Rattle.std.specs.Prelude.{◌≡◌, ◌≤◌, length, MatchResult};
+ghost use Rattle.std.specs.Prelude.{◌≡◌, MatchResult};
 ghost use Rattle.study.specs.Stages.{weighed_stage, underway_stage, ordered_stage};
 ghost use Rattle.study_theory.specs.Runs.{new};
-ghost use Rattle.study_runs.specs.Going.{Goes, stage_of};
+ghost use Rattle.study_runs.specs.Going.{Goes, Stood, stage_of};
 
 use super::answers::{Answer, StageName};
 use super::commands::Command;
-use super::copying::{few_from, lateness_at};
+use super::copying::{few, lateness_at};
+use super::sheets::Sheets;
 use lines::line::{Kind, Line};
 use numbers::Parts;
 use study::states::{New, Ordered, Underway, Weighed};
@@ -40,6 +41,21 @@ fn from_new<W: Work, L: Line>(
     }
 }
 
+// A study underway, and the answer that tells where it stands.
+fn stands<N: Kind + Copy>(study: Underway<N>, trail: &[Parts]) -> (Study<N>, Answer<N>)
+    ensures { Stood study trail.now result.0 result.1 }
+{
+    let at = study.standing();
+    let lateness = lateness_at(at, trail);
+    (
+        Study::Underway(study),
+        Answer::Stands {
+            stop: at.stop,
+            lateness,
+        },
+    )
+}
+
 fn from_weighed<L: Line>(
     study: Weighed<L::Number>,
     line: &L,
@@ -51,17 +67,7 @@ fn from_weighed<L: Line>(
 {
     match command {
         Command::Begin(start) => match study.begin(start.as_slice(), trail) {
-            Ok(underway) => {
-                let at = underway.standing();
-                let lateness = lateness_at(at, trail);
-                (
-                    Study::Underway(underway),
-                    Answer::Stands {
-                        stop: at.stop,
-                        lateness,
-                    },
-                )
-            }
+            Ok(underway) => stands(underway, trail),
             Err(refused) => (Study::Weighed(refused.0), Answer::Refused(refused.1)),
         },
         _ => (Study::Weighed(study), Answer::NotNow(StageName::Weighed)),
@@ -85,14 +91,13 @@ fn from_underway<L: Line>(
     trail: &[Parts],
     slip: &mut [Parts],
 ) -> (Study<L::Number>, Answer<L::Number>)
-    requires { length slip.old ≤ 4 }
     ensures { Goes L.Number.Number (L.Line.meaning line.now) command.now result.1 (underway_stage study) (stage_of result.0) gains.now gains.now trail.now trail.now }
 {
     match command {
         Command::Propose => match study.propose(gains, trail, slip) {
             Ok(ordered) => (
                 Study::Ordered(ordered),
-                Answer::Planned(few_from(slip, 0, slip.len())),
+                Answer::Planned(few(slip, slip.len())),
             ),
             Err(refused) => (Study::Underway(refused.0), Answer::Refused(refused.1)),
         },
@@ -128,31 +133,10 @@ fn from_ordered<L: Line>(
 {
     match command {
         Command::Confirm(made) => match study.confirm::<L>(line, made.as_slice(), trail) {
-            Ok(underway) => {
-                let at = underway.standing();
-                let lateness = lateness_at(at, trail);
-                (
-                    Study::Underway(underway),
-                    Answer::Stands {
-                        stop: at.stop,
-                        lateness,
-                    },
-                )
-            }
+            Ok(underway) => stands(underway, trail),
             Err(refused) => (Study::Ordered(refused.0), Answer::Refused(refused.1)),
         },
-        Command::Withdraw => {
-            let underway = study.withdraw();
-            let at = underway.standing();
-            let lateness = lateness_at(at, trail);
-            (
-                Study::Underway(underway),
-                Answer::Stands {
-                    stop: at.stop,
-                    lateness,
-                },
-            )
-        }
+        Command::Withdraw => stands(study.withdraw(), trail),
         _ => (Study::Ordered(study), Answer::NotNow(StageName::Ordered)),
     }
 }
@@ -162,14 +146,16 @@ pub(super) fn perform_one<W: Work, L: Line>(
     study: Study<L::Number>,
     line: &L,
     command: &Command,
-    gains: &mut [Parts],
-    scratch: &mut [Parts],
-    trail: &mut [Parts],
-    slip: &mut [Parts],
+    sheets: &mut Sheets,
 ) -> (Study<L::Number>, Answer<L::Number>)
-    requires { length slip.old ≤ 4 }
-    ensures { Goes L.Number.Number (L.Line.meaning line.now) command.now result.1 (stage_of study) (stage_of result.0) gains.old gains.new trail.old trail.new }
+    ensures { Goes L.Number.Number (L.Line.meaning line.now) command.now result.1 (stage_of study) (stage_of result.0) sheets.old.gains.items sheets.new.gains.items sheets.old.trail.items sheets.new.trail.items }
 {
+    let Sheets {
+        gains,
+        scratch,
+        trail,
+        slip,
+    } = sheets;
     match study {
         Study::New(study) => from_new::<W, L>(study, line, command, gains, scratch, trail),
         Study::Weighed(study) => from_weighed::<L>(study, line, command, gains, trail),
@@ -179,7 +165,7 @@ pub(super) fn perform_one<W: Work, L: Line>(
 }
 
 impl<N: Kind + Copy> Study<N> {
-    // Lets the study go; an order that is still out is withdrawn.
+    // Lets the study go; an order that is still out is withdrawn. Each state by its own arm: a study in any state is not let go.
     pub(super) fn leave(self) {
         match self {
             Study::New(_) => {}

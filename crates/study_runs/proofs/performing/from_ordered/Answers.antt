@@ -1,7 +1,6 @@
-use Rattle.std.proofs.Common.{suc, vec_items, sym, refl, ap, ◌∙◌, subst}
+use Rattle.std.proofs.Common.{suc, vec_items, refl, ap, subst}
 use Rattle.study_theory.specs.Runs.{confirms, withdraws, asks_confirm}
 use Rattle.study_theory.specs.Runs as runs
-use Rattle.study_terms.specs.declared.stops.Standing.{Standing}
 use Rattle.study_terms.specs.Sized.{shape}
 use Rattle.study_terms.specs.Checks.{RefusedWith}
 use Rattle.study_terms.specs.Refusals.{refusal}
@@ -9,8 +8,7 @@ use Rattle.study_terms.specs.Sheets.{at}
 use Rattle.study_terms.specs.Calls.{confirm_checks, ConfirmGranted}
 use Rattle.study.specs.Stages.{ordered_stage}
 use Rattle.study_runs.specs.declared.commands.Command.TheVariants.{Confirm, Withdraw}
-use Rattle.study_runs.specs.declared.answers.Answer.TheVariants.{Stands}
-use Rattle.study_runs.proofs.Leading.{goes_on, goes_refused, goes_not}
+use Rattle.study_runs.proofs.Leading.{goes_stands, goes_refused, goes_not}
 use Rattle.study_runs.proofs.Verbs.{none_ordered}
 use Rattle.study_runs.proofs.performing.from_ordered.Goals as goal
 
@@ -22,13 +20,11 @@ returns-in-Ok g c =
     let s = shape c.args.study.at.sizes in
     let k = c.args.study.at.stop in
     let made = vec_items c.in-Confirm.made in
-    let now = c.standing-at.result in
-    goes_on N m c.args.command.now (Confirm c.in-Confirm.made) (Stands now.stop c.lateness_at-lateness.result) (ordered_stage c.args.study) _ (runs.underway s (suc k))
-    c.args.gains.now c.args.gains.now c.args.trail.now c.confirm.new.trail (runs.confirm made) runs.done c.in-Confirm.is h.0 refl
+    goes_stands N m c.args.command.now (Confirm c.in-Confirm.made) (ordered_stage c.args.study) (runs.underway s (suc k)) c.in-Ok.underway c.stands.result.0 c.stands.result.1
+    c.args.gains.now c.args.trail.now c.confirm.new.trail (runs.confirm made) c.in-Confirm.is h.0 refl c.stands.ensures
     (λ l. (
       runs.extended l (at N made),
       confirms refl (subst (λ t. ConfirmGranted N s m k t c.args.trail.now c.confirm.new.trail) c.as_slice.ensures.value h.1),
-      (refl, (shape now.sizes, sym h.0 ∙ ap (λ (a : Standing). runs.underway (shape a.sizes) a.stop) (sym c.standing-at.ensures), c.lateness_at-lateness.ensures)),
     ))
 
 pub returns-in-Err : goal.returns-in-Err
@@ -49,15 +45,8 @@ returns-in-Withdraw g c =
     let m = g.L.Line.meaning c.args.line.now in
     let s = shape c.args.study.at.sizes in
     let k = c.args.study.at.stop in
-    let now = c.standing-at-in-Withdraw.result in
-    let h = c.withdraw-underway.ensures in
-    goes_on N m c.args.command.now Withdraw (Stands now.stop c.lateness_at-lateness-in-Withdraw.result) (ordered_stage c.args.study) _ (runs.underway s k)
-    c.args.gains.now c.args.gains.now c.args.trail.now c.args.trail.now runs.withdraw runs.done c.in-Withdraw.is h refl
-    (λ l. (
-      l,
-      withdraws refl,
-      (refl, (shape now.sizes, sym h ∙ ap (λ (a : Standing). runs.underway (shape a.sizes) a.stop) (sym c.standing-at-in-Withdraw.ensures), c.lateness_at-lateness-in-Withdraw.ensures)),
-    ))
+    goes_stands N m c.args.command.now Withdraw (ordered_stage c.args.study) (runs.underway s k) c.withdraw.result c.stands-in-Withdraw.result.0 c.stands-in-Withdraw.result.1
+    c.args.gains.now c.args.trail.now c.args.trail.now runs.withdraw c.in-Withdraw.is c.withdraw.ensures refl c.stands-in-Withdraw.ensures (λ l. (l, withdraws refl))
 
 pub returns-in_default : goal.returns-in_default
 returns-in_default g c =

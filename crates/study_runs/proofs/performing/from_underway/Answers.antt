@@ -1,8 +1,7 @@
-use Rattle.std.proofs.Common.{◌≡◌, ◌+◌, length, get_or, refl, ap, ◌∙◌, arith}
+use Rattle.std.proofs.Common.{length, refl, ap}
 use Rattle.study_theory.specs.Runs.{proposes, tells_paid, tells_rest, tells_excess, abandons, closes, asks_propose, asks_paid, asks_rest, asks_excess, asks_close}
 use Rattle.study_theory.specs.Runs as runs
 use Rattle.study_terms.specs.Sized.{shape}
-use Rattle.study_terms.specs.Sheets.{blank}
 use Rattle.study_terms.specs.Calls.{propose_checks, paid_checks, rest_checks, excess_checks, close_checks, paid_at, rest_at, excess_at}
 use Rattle.study.specs.Stages.{underway_stage}
 use Rattle.study_runs.specs.declared.commands.Command.TheVariants.{Propose, Paid, Rest, Excess, Abandon, Close}
@@ -19,13 +18,13 @@ returns-in-Ok g c =
     let s = shape c.args.study.at.sizes in
     let k = c.args.study.at.stop in
     let slip = c.propose.new.slip in
-    let f = c.few_from.ensures in
-    goes_on N m c.args.command.now Propose (Planned c.few_from.result) (underway_stage c.args.study) _ (runs.ordered s k)
+    let f = c.few.ensures in
+    goes_on N m c.args.command.now Propose (Planned c.few.result) (underway_stage c.args.study) _ (runs.ordered s k)
     c.args.gains.now c.args.gains.now c.args.trail.now c.args.trail.now (runs.propose c.args.slip.now) (runs.wrote slip) c.in-Propose.is h.0 (c.args.slip.now, refl)
     (λ l. (
       l,
       proposes refl h.1,
-      (slip, refl, record { count = f.count; rows = λ j q. f.rows j q ∙ (let z : 0 + j ≡ j = omega arith in ap (λ i. get_or slip i blank) z) }),
+      (slip, refl, record { count = f.count; rows = f.rows }),
     ))
 
 pub returns-in-Err : goal.returns-in-Err

@@ -1,7 +1,6 @@
-use Rattle.std.proofs.Common.{length, vec_items, sym, refl, ap, ◌∙◌, subst}
+use Rattle.std.proofs.Common.{length, vec_items, refl, ap, subst}
 use Rattle.study_theory.specs.Runs.{begins, asks_begin}
 use Rattle.study_theory.specs.Runs as runs
-use Rattle.study_terms.specs.declared.stops.Standing.{Standing}
 use Rattle.study_terms.specs.Sized.{shape}
 use Rattle.study_terms.specs.Checks.{RefusedWith}
 use Rattle.study_terms.specs.Refusals.{refusal}
@@ -9,8 +8,7 @@ use Rattle.study_terms.specs.Sheets.{at}
 use Rattle.study_terms.specs.Calls.{begin_checks, BeginGranted}
 use Rattle.study.specs.Stages.{weighed_stage}
 use Rattle.study_runs.specs.declared.commands.Command.TheVariants.{Begin}
-use Rattle.study_runs.specs.declared.answers.Answer.TheVariants.{Stands}
-use Rattle.study_runs.proofs.Leading.{goes_on, goes_refused, goes_not}
+use Rattle.study_runs.proofs.Leading.{goes_stands, goes_refused, goes_not}
 use Rattle.study_runs.proofs.Verbs.{none_weighed}
 use Rattle.study_runs.proofs.performing.from_weighed.Goals as goal
 
@@ -21,13 +19,11 @@ returns-in-Ok g c =
     let h = c.in-Ok.ensures in
     let s = shape c.args.study.sizes in
     let start = vec_items c.in-Begin.start in
-    let now = c.standing-at.result in
-    goes_on N m c.args.command.now (Begin c.in-Begin.start) (Stands now.stop c.lateness_at-lateness.result) (weighed_stage c.args.study) _ (runs.underway s 0)
-    c.args.gains.now c.args.gains.now c.args.trail.now c.begin.new.trail (runs.begin start) runs.done c.in-Begin.is h.0 refl
+    goes_stands N m c.args.command.now (Begin c.in-Begin.start) (weighed_stage c.args.study) (runs.underway s 0) c.in-Ok.underway c.stands.result.0 c.stands.result.1
+    c.args.gains.now c.args.trail.now c.begin.new.trail (runs.begin start) c.in-Begin.is h.0 refl c.stands.ensures
     (λ l. (
       runs.entered (runs.begun N (at N start)),
       begins refl (subst (λ t. BeginGranted N s t c.args.trail.now c.begin.new.trail) c.as_slice.ensures.value h.1),
-      (refl, (shape now.sizes, sym h.0 ∙ ap (λ (a : Standing). runs.underway (shape a.sizes) a.stop) (sym c.standing-at.ensures), c.lateness_at-lateness.ensures)),
     ))
 
 pub returns-in-Err : goal.returns-in-Err

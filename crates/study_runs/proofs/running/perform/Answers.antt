@@ -1,14 +1,22 @@
 use Rattle.lines.proofs.Theory.{exact_lawful}
+use Rattle.study_theory.specs.Law.{StudyLaw}
 use Rattle.study_theory.proofs.Laws.{study_law}
+use Rattle.study_runs.proofs.running.perform.Given as given
 use Rattle.study_runs.proofs.running.perform.Goals as goal
 
-pub returns : goal.returns
-returns g c =
+-- the law holds, whether or not there is memory
+law : (g : given.Over) (line : g.row.L.Denot) → StudyLaw g.L.Number.Number (g.L.Line.meaning line) g.L.Number.Kind.find
+law g line =
     let N = g.L.Number.Number in
-    let m = g.L.Line.meaning c.args.line.now in
     let laws = g.met.L.Number.Number in
-    record {
-      run = c.perform_in_sheets.ensures;
-      law = study_law N (record { same = laws.same; form = laws.form; back = laws.back; wholes = laws.wholes }) m
-          (exact_lawful N.good N.value m (g.met.L.Line.lawful c.args.line.now)) g.L.Number.Kind.find g.met.L.Number.Kind.finds;
-    }
+    study_law N (record { same = laws.same; form = laws.form; back = laws.back; wholes = laws.wholes }) (g.L.Line.meaning line)
+    (exact_lawful N.good N.value (g.L.Line.meaning line) (g.met.L.Line.lawful line)) g.L.Number.Kind.find g.met.L.Number.Kind.finds
+
+pub returns-clause-law : goal.returns-clause-law
+returns-clause-law g c = law g c.args.line.now
+
+pub returns-in_err-answers-clause-law : goal.returns-in_err-answers-clause-law
+returns-in_err-answers-clause-law g c = law g c.args.line.now
+
+pub returns-in_err-sheets-clause-law : goal.returns-in_err-sheets-clause-law
+returns-in_err-sheets-clause-law g c = law g c.args.line.now

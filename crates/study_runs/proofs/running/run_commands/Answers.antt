@@ -12,10 +12,9 @@ loop-command-init g c =
     let m = g.L.Line.meaning c.args.line.now in
     let e = c.requires.none in
     let len : vec_len c.args.answers.now ≡ 0 = c.args.answers.now.ok.0 ∙ ap length e in (
-      subst (λ v. SoFar N m [] v (Rattle.study_theory.specs.Runs.new) c.args.gains.now c.args.trail.now) (sym e) ([], empty, started c.args.gains.now c.args.trail.now),
+      subst (λ v. SoFar N m [] v (Rattle.study_theory.specs.Runs.new) (vec_items c.args.sheets.now.gains) (vec_items c.args.sheets.now.trail)) (sym e) ([], empty, started (vec_items c.args.sheets.now.gains) (vec_items c.args.sheets.now.trail)),
       len,
       c.requires.room,
-      c.requires.few,
     )
 
 pub loop-command-preserved : goal.loop-command-preserved
@@ -34,13 +33,11 @@ loop-command-preserved g c =
     let push = c.push_reserved.ensures in
     let long = push.len in
     let cap = push.capacity in
-    let room = i.2 in
-    let few = i.3 in (
-      subst (λ t. SoFar N m t (vec_items c.push_reserved.new.self) (stage_of r.result.0) r.new.gains r.new.trail) (sym one)
-          (subst (λ v. SoFar N m (take k cs ++ (command ∷ [])) v (stage_of r.result.0) r.new.gains r.new.trail) (sym push.items)
-          (more N m (take k cs) (vec_items c.loop-command.answers) command r.result.1 (stage_of c.loop-command.study) (stage_of r.result.0) c.loop-command.gains r.new.gains c.loop-command.trail r.new.trail i.0 r.ensures)),
+    let room = i.2 in (
+      subst (λ t. SoFar N m t (vec_items c.push_reserved.new.self) (stage_of r.result.0) (vec_items r.new.sheets.gains) (vec_items r.new.sheets.trail)) (sym one)
+          (subst (λ v. SoFar N m (take k cs ++ (command ∷ [])) v (stage_of r.result.0) (vec_items r.new.sheets.gains) (vec_items r.new.sheets.trail)) (sym push.items)
+          (more N m (take k cs) (vec_items c.loop-command.answers) command r.result.1 (stage_of c.loop-command.study) (stage_of r.result.0) (vec_items c.loop-command.sheets.gains) (vec_items r.new.sheets.gains) (vec_items c.loop-command.sheets.trail) (vec_items r.new.sheets.trail) i.0 r.ensures)),
       long ∙ ap (λ n. n + 1) i.1,
-      omega arith,
       omega arith,
     )
 
@@ -50,6 +47,6 @@ returns g c =
     let m = g.L.Line.meaning c.args.line.now in
     let i = c.loop-command.invariant in
     let past : length c.args.commands.now ≤ c.loop-command.command-index = omega arith in
-    let p : Performed N m c.args.commands.now (vec_items c.loop-command.answers) i.0.0 (world N (stage_of c.loop-command.study) c.loop-command.gains c.loop-command.trail i.0.1) =
-    subst (λ t. Performed N m t (vec_items c.loop-command.answers) i.0.0 (world N (stage_of c.loop-command.study) c.loop-command.gains c.loop-command.trail i.0.1)) (take_all _ c.args.commands.now past) i.0.2 in
+    let p : Performed N m c.args.commands.now (vec_items c.loop-command.answers) i.0.0 (world N (stage_of c.loop-command.study) (vec_items c.loop-command.sheets.gains) (vec_items c.loop-command.sheets.trail) i.0.1) =
+    subst (λ t. Performed N m t (vec_items c.loop-command.answers) i.0.0 (world N (stage_of c.loop-command.study) (vec_items c.loop-command.sheets.gains) (vec_items c.loop-command.sheets.trail) i.0.1)) (take_all _ c.args.commands.now past) i.0.2 in
     record { history = i.0.0; world = _; performed = p; run = performed_run N m _ _ _ _ p }

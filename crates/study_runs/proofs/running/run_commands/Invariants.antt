@@ -6,5 +6,5 @@ use Rattle.study_runs.proofs.running.run_commands.Given as goal
 -- the commands so far are performed, and there is room for the answers to the others
 abbrev pub invariant-loop-command : goal.invariant-loop-command
 invariant-loop-command g l =
-    SoFar g.L.Number.Number (g.L.Line.meaning l.line) (take l.command-index l.commands) (vec_items l.answers) (stage_of l.study) l.gains l.trail
-    × (vec_len l.answers ≡ l.command-index) × (length l.commands ≤ vec_capacity l.answers) × (length l.slip ≤ 4)
+    SoFar g.L.Number.Number (g.L.Line.meaning l.line) (take l.command-index l.commands) (vec_items l.answers) (stage_of l.study) (vec_items l.sheets.gains) (vec_items l.sheets.trail)
+    × (vec_len l.answers ≡ l.command-index) × (length l.commands ≤ vec_capacity l.answers)
