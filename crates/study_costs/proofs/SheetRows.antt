@@ -79,3 +79,11 @@ zeroed from to was part l h e =
 pub worked_more : {A : Type 0} (N : Ghosts A) (f : ℕ → Formula A (NumberOf N)) (n : ℕ) (rows : List Parts) (k : A) (row : Parts) → n < length rows
     → WorkedRows N f n rows → Outcome N (f n) (Ok k) → row ≡ N.parts k → WorkedRows N f (n + 1) (set rows n row)
 worked_more N f n rows k row l w u e = row_more (λ j r. Sound N (f j) × Written N (exact N (f j)) r) n rows row l w (u.0, (k, u.1, e))
+
+-- rows that were worked at the front of a list
+pub worked_front : {A : Type 0} (N : Ghosts A) (f : ℕ → Formula A (NumberOf N)) (n : ℕ) (rows rest : List Parts) → n ≤ length rows
+    → WorkedRows N f n rows → WorkedRows N f n (rows ++ rest)
+worked_front N f n rows rest l w j h =
+    let old = w j h in
+    let e = get_or_append_left rows rest blank j (omega arith) in
+    (old.0, subst (Written N (exact N (f j))) (sym e) old.1)

@@ -36,9 +36,9 @@ pub fn next_lateness<L: Line>(
     ensures { NextAnswer L.Number.Number (L.Line.meaning line.now) at made.now trail.now result }
 {
     let mut rows = [ZERO; 4];
-    for j in 0..at.sizes.states {
+    for (j, row) in rows[..at.sizes.states].iter_mut().enumerate() {
         let number = next_number(at, line, j, made, trail).map_err(|_| StudyFault::NextTooLarge)?;
-        rows[j] = number.row();
+        *row = number.row();
     }
     Ok(rows)
 }

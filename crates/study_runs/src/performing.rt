@@ -1,5 +1,7 @@
 // One command: the call that it makes, where the state of the study allows it.
-ghost use Rattle.std.specs.Prelude.{◌≡◌, MatchResult};
+ghost use Rattle.std.specs.Prelude.{◌≡◌, List, MatchResult};
+ghost use Rattle.lines.specs.Meaning.{Meaning};
+ghost use Rattle.numbers.specs.declared.Parts.{Parts};
 ghost use Rattle.study.specs.Stages.{weighed_stage, underway_stage, ordered_stage};
 ghost use Rattle.study_theory.specs.Runs.{new};
 ghost use Rattle.study_runs.specs.Going.{Goes, Stood, stage_of};
@@ -28,14 +30,13 @@ fn from_new<W: Work, L: Line>(
     command: &Command,
     gains: &mut [Parts],
     scratch: &mut [Parts],
-    trail: &[Parts],
 ) -> (Study<L::Number>, Answer<L::Number>)
-    ensures { Goes L.Number.Number (L.Line.meaning line.now) command.now result.1 new (stage_of result.0) gains.old gains.new trail.now trail.now }
+    ensures { (trail : List Parts) → Goes L.Number.Number (L.Line.meaning line.now) command.now result.1 new (stage_of result.0) gains.old gains.new trail trail }
 {
     match command {
         Command::Weigh => match study.weigh::<W, L>(line, gains, scratch) {
             Ok(weighed) => (Study::Weighed(weighed), Answer::Accepted),
-            Err(refused) => (Study::New(refused.0), Answer::Refused(refused.1)),
+            Err((study, fault)) => (Study::New(study), Answer::Refused(fault)),
         },
         _ => (Study::New(study), Answer::NotNow(StageName::New)),
     }
@@ -56,19 +57,17 @@ fn stands<N: Kind + Copy>(study: Underway<N>, trail: &[Parts]) -> (Study<N>, Ans
     )
 }
 
-fn from_weighed<L: Line>(
-    study: Weighed<L::Number>,
-    line: &L,
+fn from_weighed<N: Kind + Copy>(
+    study: Weighed<N>,
     command: &Command,
-    gains: &[Parts],
     trail: &mut [Parts],
-) -> (Study<L::Number>, Answer<L::Number>)
-    ensures { Goes L.Number.Number (L.Line.meaning line.now) command.now result.1 (weighed_stage study) (stage_of result.0) gains.now gains.now trail.old trail.new }
+) -> (Study<N>, Answer<N>)
+    ensures { (m : Meaning N) (gains : List Parts) → Goes N.Number m command.now result.1 (weighed_stage study) (stage_of result.0) gains gains trail.old trail.new }
 {
     match command {
         Command::Begin(start) => match study.begin(start.as_slice(), trail) {
             Ok(underway) => stands(underway, trail),
-            Err(refused) => (Study::Weighed(refused.0), Answer::Refused(refused.1)),
+            Err((study, fault)) => (Study::Weighed(study), Answer::Refused(fault)),
         },
         _ => (Study::Weighed(study), Answer::NotNow(StageName::Weighed)),
     }
@@ -99,7 +98,7 @@ fn from_underway<L: Line>(
                 Study::Ordered(ordered),
                 Answer::Planned(few(slip, slip.len())),
             ),
-            Err(refused) => (Study::Underway(refused.0), Answer::Refused(refused.1)),
+            Err((study, fault)) => (Study::Underway(study), Answer::Refused(fault)),
         },
         Command::Paid => {
             let answer = told(study.paid::<L>(line, trail));
@@ -116,7 +115,7 @@ fn from_underway<L: Line>(
         Command::Abandon => (Study::Weighed(study.abandon()), Answer::Ended),
         Command::Close => match study.close() {
             Ok(weighed) => (Study::Weighed(weighed), Answer::Ended),
-            Err(refused) => (Study::Underway(refused.0), Answer::Refused(refused.1)),
+            Err((study, fault)) => (Study::Underway(study), Answer::Refused(fault)),
         },
         _ => (Study::Underway(study), Answer::NotNow(StageName::Underway)),
     }
@@ -126,15 +125,14 @@ fn from_ordered<L: Line>(
     study: Ordered<L::Number>,
     line: &L,
     command: &Command,
-    gains: &[Parts],
     trail: &mut [Parts],
 ) -> (Study<L::Number>, Answer<L::Number>)
-    ensures { Goes L.Number.Number (L.Line.meaning line.now) command.now result.1 (ordered_stage study) (stage_of result.0) gains.now gains.now trail.old trail.new }
+    ensures { (gains : List Parts) → Goes L.Number.Number (L.Line.meaning line.now) command.now result.1 (ordered_stage study) (stage_of result.0) gains gains trail.old trail.new }
 {
     match command {
         Command::Confirm(made) => match study.confirm::<L>(line, made.as_slice(), trail) {
             Ok(underway) => stands(underway, trail),
-            Err(refused) => (Study::Ordered(refused.0), Answer::Refused(refused.1)),
+            Err((study, fault)) => (Study::Ordered(study), Answer::Refused(fault)),
         },
         Command::Withdraw => stands(study.withdraw(), trail),
         _ => (Study::Ordered(study), Answer::NotNow(StageName::Ordered)),
@@ -157,10 +155,10 @@ pub(super) fn perform_one<W: Work, L: Line>(
         slip,
     } = sheets;
     match study {
-        Study::New(study) => from_new::<W, L>(study, line, command, gains, scratch, trail),
-        Study::Weighed(study) => from_weighed::<L>(study, line, command, gains, trail),
+        Study::New(study) => from_new::<W, L>(study, line, command, gains, scratch),
+        Study::Weighed(study) => from_weighed(study, command, trail),
         Study::Underway(study) => from_underway::<L>(study, line, command, gains, trail, slip),
-        Study::Ordered(study) => from_ordered::<L>(study, line, command, gains, trail),
+        Study::Ordered(study) => from_ordered::<L>(study, line, command, trail),
     }
 }
 

@@ -8,7 +8,7 @@ use numbers::{Number, Parts};
 // The row in which every kind writes 0.
 pub const ZERO: Parts = Parts { p: 0, q: 0, m: 1 };
 
-// The number 0 of a kind.
+// The number 0 of a kind. It and 1 each promise the exact number by its own name, as the formulas have it.
 pub fn zero<N: Number>() -> N
     ensures { N.Number.value result ≡ zero_e N.Number.radicand }
 {

@@ -1,5 +1,6 @@
 // A refusal as text: its number and a sentence.
 use super::kinds::StudyFault;
+use std::error::Error;
 use std::fmt;
 
 fn sentence(fault: StudyFault) -> &'static str {
@@ -30,3 +31,5 @@ impl fmt::Display for StudyFault {
         write!(f, "{number}: {text}")
     }
 }
+
+impl Error for StudyFault {}

@@ -17,9 +17,6 @@ rows_fault N w M z b (suc n) a l h =
       | no d ↦ sums_fault N (rows_formula N w n M z) (λ c. times (times (M n c) (known (z n))) (known (z c))) b w 0 (omega arith) (rows_fault N w M z b n a (omega arith) h)
     ]
 
-pub loop-a-init : goal.loop-a-init
-loop-a-init g c M z h q = (tt, c.zero-total.ensures)
-
 pub loop-a-preserved : goal.loop-a-preserved
 loop-a-preserved g c M z h q =
     let N = g.N.Number in
@@ -31,12 +28,6 @@ loop-a-preserved g c M z h q =
     (λ k y l p.
     subst (λ x. Outcome N (times (times (M a k) (known x)) (known (z k))) y) (q a c.list-left.result (omega arith) c.list-left.ensures)
     (p (M a k) (z k) (λ o. h a k o (omega arith) l) (λ v. q k v l))))
-
-pub returns : goal.returns
-returns g c M z h q =
-    let N = g.N.Number in
-    let e : c.loop-a.a-counter ≡ c.args.width = omega arith in
-    subst (λ n. Outcome N (rows_formula N c.args.width n M z) (Ok c.loop-a.total)) e (c.loop-a.invariant M z h q)
 
 pub returns-in_err-total : goal.returns-in_err-total
 returns-in_err-total g c M z h q =

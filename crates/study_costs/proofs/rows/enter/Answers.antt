@@ -8,6 +8,3 @@ loop-j-preserved g c =
     let N = g.N.Number in
     row_more (λ k r. Written N (at N c.args.numbers.now k) r) c.loop-j.j c.loop-j.rows c.row.result (omega arith)
     c.loop-j.invariant (c.number_at.result, c.number_at.ensures, c.row.ensures)
-
-pub returns : goal.returns
-returns g c j l = c.loop-j.invariant j (omega arith)

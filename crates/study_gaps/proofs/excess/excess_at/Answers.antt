@@ -1,16 +1,10 @@
-use Rattle.std.proofs.Common.{inl, inr, rules}
-use Rattle.std.proofs.lemmas.Result.{err_from_is_err_and}
+use Rattle.std.proofs.Common.{inr, rules}
 use Rattle.study_terms.specs.declared.faults.kinds.StudyFault.TheVariants.{AnswerTooLarge}
 use Rattle.study_terms.specs.Calls.{excess_formula, excess_at, excess_checks}
 use Rattle.study_terms.specs.Sized.{shape}
 use Rattle.study_terms.proofs.GapNumbers.{excess_number}
 use Rattle.study_terms.proofs.Working.{named, answered}
 use Rattle.study_gaps.proofs.excess.excess_at.Goals as goal
-
-pub returns-in_err-check_sheets : goal.returns-in_err-check_sheets
-returns-in_err-check_sheets g c =
-    let p = err_from_is_err_and c.from_residual.result c.from_residual.ensures.1 in
-    rw (p.1, p.2) (inl c.in_err-check_sheets.ensures)
 
 pub returns : goal.returns
 returns g c =

@@ -20,9 +20,6 @@ excess_fault N s gains trail b (suc k) n l h =
       | no q ↦ sums_fault N (excess_formula N s gains trail k) (square_formula N s gains trail k) b s.nu 0 (omega arith) (excess_fault N s gains trail b k n (omega arith) h)
     ]
 
-pub loop-stop-init : goal.loop-stop-init
-loop-stop-init g c = (tt, c.zero-total.ensures)
-
 pub loop-stop-preserved : goal.loop-stop-preserved
 loop-stop-preserved g c =
     let N = g.N.Number in
@@ -31,12 +28,6 @@ loop-stop-preserved g c =
     subst (λ n. Outcome N (excess_formula N s c.args.gains.now c.args.trail.now n) (Ok c.in_ok-total.total)) z
     (c.in_ok-total.ensures (excess_formula N s c.args.gains.now c.args.trail.now c.loop-stop.stop) (square_formula N s c.args.gains.now c.args.trail.now c.loop-stop.stop)
     c.loop-stop.invariant (λ k y l p. search rules))
-
-pub returns : goal.returns
-returns g c =
-    let N = g.N.Number in
-    let z : c.loop-stop.stop ≡ c.args.at.stop = omega arith in
-    subst (λ n. Outcome N (excess_formula N (shape c.args.at.sizes) c.args.gains.now c.args.trail.now n) (Ok c.loop-stop.total)) z c.loop-stop.invariant
 
 pub returns-in_err-total : goal.returns-in_err-total
 returns-in_err-total g c =

@@ -1,17 +1,14 @@
-use Rattle.std.proofs.Common.{◌≡◌, suc, ◌-◌, set, sym, refl, subst, arith, rules}
+use Rattle.std.proofs.Common.{◌≡◌, suc, ◌-◌, set, sym, subst, arith, rules}
 use Rattle.std.proofs.lemmas.Result.{err_from_is_err_and}
 use Rattle.study_terms.specs.declared.faults.kinds.StudyFault.TheVariants.{PlanTooLarge}
 use Rattle.study_terms.proofs.KindRows.{Laws}
 use Rattle.study_terms.proofs.Working.{named}
-use Rattle.study_gaps.proofs.Planning.{WorkedFrom, number_of, worked_none, worked_more, worked_all, worked_refused, next_number_lem}
+use Rattle.study_gaps.proofs.Planning.{WorkedFrom, number_of, worked_more, worked_all, worked_refused, next_number_lem}
 use Rattle.study_gaps.proofs.plan.plan_rows.Given as given
 use Rattle.study_gaps.proofs.plan.plan_rows.Goals as goal
 
 laws : (g : given.Over) → Laws g.N.Number
 laws g = record { same = g.met.N.Number.same; form = g.met.N.Number.form; back = g.met.N.Number.back; wholes = g.met.N.Number.wholes }
-
-pub loop-index-init : goal.loop-index-init
-loop-index-init g c = worked_none g.N.Number c.args.here c.args.gains.now c.args.trail.now _ refl
 
 pub loop-index-preserved : goal.loop-index-preserved
 loop-index-preserved g c =

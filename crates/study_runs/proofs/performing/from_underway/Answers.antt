@@ -35,7 +35,7 @@ returns-in-Err g c =
     let s = shape c.args.study.at.sizes in
     let k = c.args.study.at.stop in
     goes_refused N m c.args.command.now Propose (underway_stage c.args.study) _ c.args.gains.now c.args.gains.now c.args.trail.now c.args.trail.now
-    (runs.propose c.args.slip.now) c.in-Err.refused.1 (propose_checks N s k c.args.gains.now c.args.trail.now (length c.args.slip.now))
+    (runs.propose c.args.slip.now) c.in-Err.fault (propose_checks N s k c.args.gains.now c.args.trail.now (length c.args.slip.now))
     c.in-Propose.is (ap underway_stage h.0) refl refl (c.args.slip.now, refl) (asks_propose refl) h.1
 
 pub returns-in-Paid : goal.returns-in-Paid
@@ -90,7 +90,7 @@ returns-in-Err-close g c =
     let s = shape c.args.study.at.sizes in
     let k = c.args.study.at.stop in
     goes_refused N m c.args.command.now Close (underway_stage c.args.study) _ c.args.gains.now c.args.gains.now c.args.trail.now c.args.trail.now
-    runs.close c.in-Err-close.refused.1 (close_checks N s k) c.in-Close.is (ap underway_stage h.0) refl refl refl (asks_close refl) h.1
+    runs.close c.in-Err-close.fault (close_checks N s k) c.in-Close.is (ap underway_stage h.0) refl refl refl (asks_close refl) h.1
 
 pub returns-in_default : goal.returns-in_default
 returns-in_default g c =

@@ -13,31 +13,29 @@ use Rattle.study_runs.proofs.Verbs.{none_weighed}
 use Rattle.study_runs.proofs.performing.from_weighed.Goals as goal
 
 pub returns-in-Ok : goal.returns-in-Ok
-returns-in-Ok g c =
-    let N = g.L.Number.Number in
-    let m = g.L.Line.meaning c.args.line.now in
+returns-in-Ok g c m gains =
+    let N = g.N.Number in
     let h = c.in-Ok.ensures in
     let s = shape c.args.study.sizes in
     let start = vec_items c.in-Begin.start in
     goes_stands N m c.args.command.now (Begin c.in-Begin.start) (weighed_stage c.args.study) (runs.underway s 0) c.in-Ok.underway c.stands.result.0 c.stands.result.1
-    c.args.gains.now c.args.trail.now c.begin.new.trail (runs.begin start) c.in-Begin.is h.0 refl c.stands.ensures
+    gains c.args.trail.now c.begin.new.trail (runs.begin start) c.in-Begin.is h.0 refl c.stands.ensures
     (λ l. (
       runs.entered (runs.begun N (at N start)),
       begins refl (subst (λ t. BeginGranted N s t c.args.trail.now c.begin.new.trail) c.as_slice.ensures.value h.1),
     ))
 
 pub returns-in-Err : goal.returns-in-Err
-returns-in-Err g c =
-    let N = g.L.Number.Number in
-    let m = g.L.Line.meaning c.args.line.now in
+returns-in-Err g c m gains =
+    let N = g.N.Number in
     let h = c.in-Err.ensures in
     let s = shape c.args.study.sizes in
     let start = vec_items c.in-Begin.start in
-    goes_refused N m c.args.command.now (Begin c.in-Begin.start) (weighed_stage c.args.study) _ c.args.gains.now c.args.gains.now c.args.trail.now c.begin.new.trail
-    (runs.begin start) c.in-Err.refused.1 (begin_checks N s (length start) (length c.args.trail.now)) c.in-Begin.is (ap weighed_stage h.0) refl h.2 refl (asks_begin refl)
-    (subst (λ t. RefusedWith N (begin_checks N s (length t) (length c.args.trail.now)) (refusal c.in-Err.refused.1)) c.as_slice.ensures.value h.1)
+    goes_refused N m c.args.command.now (Begin c.in-Begin.start) (weighed_stage c.args.study) _ gains gains c.args.trail.now c.begin.new.trail
+    (runs.begin start) c.in-Err.fault (begin_checks N s (length start) (length c.args.trail.now)) c.in-Begin.is (ap weighed_stage h.0) refl h.2 refl (asks_begin refl)
+    (subst (λ t. RefusedWith N (begin_checks N s (length t) (length c.args.trail.now)) (refusal c.in-Err.fault)) c.as_slice.ensures.value h.1)
 
 pub returns-in_default : goal.returns-in_default
-returns-in_default g c =
-    goes_not g.L.Number.Number (g.L.Line.meaning c.args.line.now) c.args.command.now (weighed_stage c.args.study) c.args.gains.now c.args.trail.now
+returns-in_default g c m gains =
+    goes_not g.N.Number m c.args.command.now (weighed_stage c.args.study) gains c.args.trail.now
     (none_weighed (shape c.args.study.sizes) c.args.command.now c.in_default.not-Begin)

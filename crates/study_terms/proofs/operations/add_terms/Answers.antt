@@ -4,9 +4,6 @@ use Rattle.study_terms.specs.Formulas.{sums, Outcome}
 use Rattle.study_terms.proofs.Working.{not_held, sum_more, sum_term, sum_large, exits}
 use Rattle.study_terms.proofs.operations.add_terms.Goals as goal
 
-pub loop-k-init : goal.loop-k-init
-loop-k-init g c = λ s f u h. u
-
 pub loop-k-preserved : goal.loop-k-preserved
 loop-k-preserved g c s f u h =
     let x = c.in_ok-term.field-0 in

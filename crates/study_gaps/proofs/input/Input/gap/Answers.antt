@@ -1,22 +1,12 @@
-use Rattle.std.proofs.Common.{◌≡◌, ℕ, Ok, drop, ap, ◌∙◌, subst, inl, inr, rules}
+use Rattle.std.proofs.Common.{◌≡◌, ℕ, Ok, drop, ap, ◌∙◌, subst, rules}
 use Rattle.study_terms.specs.declared.faults.kinds.Below.TheVariants.{TooLarge}
-use Rattle.study_terms.specs.Formulas.{NumberOf, Formula, known, Outcome, FirstFault}
+use Rattle.study_terms.specs.Formulas.{NumberOf, Formula, known, Outcome}
 use Rattle.study_terms.specs.Sheets.{u_place, u_at}
 use Rattle.study_terms.specs.Sized.{shape}
 use Rattle.study_terms.proofs.TrailParts.{adjustments_read}
 use Rattle.study_terms.proofs.Working.{plus_ok, plus_err, not_held, exits}
 use Rattle.study_gaps.specs.Steps.{later_here, gap_here}
 use Rattle.study_gaps.proofs.input.Input.gap.Goals as goal
-
-pub returns-in_err-sum : goal.returns-in_err-sum
-returns-in_err-sum g c =
-    let N = g.N.Number in
-    let i = c.args.self.now in
-    let b = c.in_err-sum.field-0.0 in
-    let made : c.adjustments-made.result.now ≡ drop (u_place (shape i.here.sizes) i.here.stop 0) i.trail.now = search rules in
-    let e = adjustments_read N (shape i.here.sizes) i.trail.now i.here.stop c.adjustments-made.result.now made in
-    exits N (gap_here N i.here i.gains.now i.trail.now i.index) c.from_residual.result b c.from_residual.ensures.1
-    (inr (inl (tt, subst (λ (u : ℕ → NumberOf N). FirstFault N (later_here N i.here i.gains.now i.trail.now u i.index) b) e c.in_err-sum.ensures)))
 
 pub returns : goal.returns
 returns g c =

@@ -1,18 +1,8 @@
-use Rattle.std.proofs.Common.{ℕ, ap, ◌∙◌, inl, inr}
-use Rattle.study_terms.specs.Calls.{square_formula}
+use Rattle.std.proofs.Common.{ℕ, ap, ◌∙◌}
 use Rattle.study_terms.specs.Formulas.{NumberOf, known, times, exact}
-use Rattle.study_terms.specs.Sized.{shape}
-use Rattle.study_terms.proofs.Working.{exits}
 use Rattle.study_gaps.specs.Steps.{factors_here, gap_here}
 use Rattle.study_gaps.proofs.Rows.{row_read}
 use Rattle.study_gaps.proofs.input.Input.weighted_square.Goals as goal
-
-pub returns-in_err-gap : goal.returns-in_err-gap
-returns-in_err-gap g c =
-    let N = g.N.Number in
-    let i = c.args.self.now in
-    exits N (square_formula N (shape i.here.sizes) i.gains.now i.trail.now i.here.stop i.index) c.from_residual.result
-    c.in_err-gap.field-0.0 c.from_residual.ensures.1 (inl (inr (inl (tt, c.in_err-gap.ensures))))
 
 pub returns : goal.returns
 returns g c =
