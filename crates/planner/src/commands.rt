@@ -54,6 +54,8 @@ fn perform_line(rt: &HostRuntime, name: &str, number: usize, command: &str) -> R
         return Ok(());
     }
     println!(rt; "> {command}")?;
-    perform(rt, words.as_slice())
-        .or_else(|failure| fail(rt, format_args!("{name} line {number}: {failure}")))
+    perform(rt, words.as_slice()).or_else(|failure| fail(
+        rt,
+        format_args!("{name} line {number}: {failure}"),
+    ))
 }

@@ -10,48 +10,11 @@ const MOST: u64 = 65_536;
 // The table in a file, or what is wrong with it and where.
 pub fn read_table(rt: &HostRuntime, name: &str) -> Result<Table, Failure> {
     let text = files::read_text(rt, name, MOST)?;
-    match Table::open(read_numbers(rt, name, text.as_str())?) {
-        Ok(table) => Ok(table),
-        Err(fault) => refuse(rt, name, text.as_str(), fault),
-    }
-}
-
-fn read_numbers(rt: &HostRuntime, name: &str, text: &str) -> Result<Vec<i64>, Failure> {
-    let mut numbers = Vec::new(rt.alloc());
-    for (place, line) in (1usize..).zip(text.lines()) {
-        for word in files::without_comment(line).split_whitespace() {
-            match word.parse::<i64>() {
-                Ok(number) => numbers.push(number)?,
-                Err(_) => {
-                    return fail(
-                        rt,
-                        format_args!("{name} line {place}: no whole number: {word}"),
-                    );
-                }
-            }
-        }
-    }
-    Ok(numbers)
-}
-
-// Tells of a refused file; a number that is refused, with its line of the file.
-fn refuse(rt: &HostRuntime, name: &str, text: &str, fault: OpenFault) -> Result<Table, Failure> {
-    let number = fault.number();
-    match fault {
-        OpenFault::BadHeader => fail(
-            rt,
-            format_args!(
-                "{name}: refused {number}: the header is missing, or a size is outside its limits"
-            ),
-        ),
-        OpenFault::BadLength => fail(
-            rt,
-            format_args!(
-                "{name}: refused {number}: there are more or fewer numbers than the header asks for"
-            ),
-        ),
+    let numbers = read_numbers(rt, name, text.as_str())?;
+    Table::open(numbers).or_else(|fault| match fault {
         OpenFault::BadEntry { index } => {
-            let place = place_of(text, index);
+            let number = fault.number();
+            let place = place_of(text.as_str(), index);
             fail(
                 rt,
                 format_args!(
@@ -59,7 +22,24 @@ fn refuse(rt: &HostRuntime, name: &str, text: &str, fault: OpenFault) -> Result<
                 ),
             )
         }
+        fault => fail(rt, format_args!("{name}: {fault}")),
+    })
+}
+
+fn read_numbers(rt: &HostRuntime, name: &str, text: &str) -> Result<Vec<i64>, Failure> {
+    let mut numbers = Vec::new(rt.alloc());
+    for (place, line) in (1usize..).zip(text.lines()) {
+        for word in files::without_comment(line).split_whitespace() {
+            let number = word.parse::<i64>().or_else(|_| {
+                fail(
+                    rt,
+                    format_args!("{name} line {place}: no whole number: {word}"),
+                )
+            })?;
+            numbers.push(number)?;
+        }
     }
+    Ok(numbers)
 }
 
 // The line of a file, from 1, on which the word with this index stands, from 0.

@@ -3,7 +3,7 @@ use super::failure::{Failure, fail};
 use super::{files, join, linefile};
 use aims::layer::Aims;
 use feeds::book::Book;
-use lines::faults::{LineFault, Mark};
+use lines::faults::LineFault;
 use lines::line::Line;
 use numbers::{Fraction, Number};
 use trains::layer::Trains;
@@ -72,17 +72,10 @@ fn set_aim<L: Line>(rt: &HostRuntime, aimed: &mut Aims<L>, word: &str) -> Result
     let Some((stop, state, value)) = three(word) else {
         return fail(rt, format_args!("show: --aim {word}: not STOP,STATE,VALUE"));
     };
-    match aimed.set(stop, state, value) {
-        Ok(()) => Ok(()),
-        Err(fault) => {
-            let number = fault.number();
-            let sentence = "no such stop or state, or a value beyond 999 in size";
-            fail(
-                rt,
-                format_args!("show: --aim {word}: refused {number}: {sentence}"),
-            )
-        }
-    }
+    aimed.set(stop, state, value).or_else(|fault| fail(
+        rt,
+        format_args!("show: --aim {word}: {fault}"),
+    ))
 }
 
 // Three whole numbers parted by commas.
@@ -105,18 +98,8 @@ fn with_feeds<L: Line<Number = Fraction> + Drop>(
     for name in names {
         join::take_in(rt, &mut book, name)?;
     }
-    match trains::fits(&line, &book) {
-        Ok(()) => show(rt, &Trains::over(line, book)),
-        Err(fault) => {
-            let number = fault.number();
-            fail(
-                rt,
-                format_args!(
-                    "show: refused {number}: the sizes of the feeds are not those of the line"
-                ),
-            )
-        }
-    }
+    trains::fits(&line, &book).or_else(|fault| fail(rt, format_args!("show: {fault}")))?;
+    show(rt, &Trains::over(line, book))
 }
 
 fn show<L: Line<Number = Fraction>>(rt: &HostRuntime, line: &L) -> Result<(), Failure> {
@@ -179,15 +162,7 @@ fn show_entry(
                 println!(rt; "{matrix} {stop} {row} {column} {number}")?;
             }
         }
-        Err(fault) => {
-            let Mark {
-                level,
-                stop: of,
-                row: at,
-                column: under,
-            } = fault.mark;
-            println!(rt; "{matrix} {stop} {row} {column} mark {level} {of} {at} {under}")?;
-        }
+        Err(LineFault { mark }) => println!(rt; "{matrix} {stop} {row} {column} {mark}")?,
     }
     Ok(())
 }
