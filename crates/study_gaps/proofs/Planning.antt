@@ -33,9 +33,6 @@ module _ {A : Type 0} (N : Ghosts A) (here : Departing) (gains trail : List Part
     pub long : length rows ≡ 3
     pub right : (c : ℕ) → i ≤ c → c < here.sizes.inputs → Right rows c
 
-  pub worked_none : (rows : List Parts) → length rows ≡ 3 → WorkedFrom here.sizes.inputs rows
-  worked_none rows e = record { long = e; right = λ c l q. absurd (omega arith) }
-
   pub worked_all : (rows : List Parts) → WorkedFrom 0 rows → Planned N here gains trail rows
   worked_all rows h = record {
     passes = λ j l q. (h.right (here.sizes.inputs - suc j) (omega arith) (omega arith)).sound;

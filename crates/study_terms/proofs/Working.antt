@@ -6,16 +6,14 @@ use Rattle.numbers.specs.declared.Number.{Ghosts}
 use Rattle.numbers.specs.declared.NumberFault.{NumberFault}
 use Rattle.numbers.specs.declared.NumberFault.TheVariants as fault
 use Rattle.numbers.specs.Answers.{Answers, Quotient}
-use Rattle.lines.specs.Meaning.{Entry, holds, marked}
-use Rattle.lines.specs.declared.faults.Mark.{Mark}
 use Rattle.study_terms.specs.declared.faults.kinds.Below.{Below}
-use Rattle.study_terms.specs.declared.faults.kinds.Below.TheVariants.{TooLarge, Marked}
+use Rattle.study_terms.specs.declared.faults.kinds.Below.TheVariants.{TooLarge}
 use Rattle.study_terms.specs.declared.faults.kinds.StudyFault.{StudyFault}
 use Rattle.study_terms.specs.declared.faults.kinds.StudyFault.TheVariants.{AnswerTooLarge}
 use Rattle.study_terms.specs.Calls.{AnswerPromise}
 use Rattle.study_terms.specs.Checks.{Checks, number, Passes, RefusedWith}
 use Rattle.study_terms.specs.Refusals.{bare, refusal}
-use Rattle.study_terms.specs.Formulas.{field, Formula, known, asked, plus, minus, times, over, sums, exact, Holds, Divides, Sound, FirstFault, Outcome}
+use Rattle.study_terms.specs.Formulas.{field, Formula, known, plus, over, sums, exact, Holds, Divides, Sound, FirstFault, Outcome}
 
 -- equal terms make equal sums
 pub sums_ext : {A C : Type 0} (s : Formula A C) (n : ℕ) (f g : ℕ → Formula A C) → ((k : ℕ) → k < n → f k ≡ g k) → sums s n f ≡ sums s n g
@@ -30,33 +28,15 @@ module _ {A : Type 0} (N : Ghosts A) where
   pub known_ok : (x : Car) (k : A) → N.value k ≡ x → Outcome N (known x) (Ok k)
   known_ok x k e = (tt, e)
 
-  pub asked_ok : (e : Entry A) (k : A) → e ≡ holds k → Outcome N (asked e) (Ok k)
-  asked_ok e k h = subst (λ e. Outcome N (asked e) (Ok k)) (sym h) (tt, refl)
-
-  pub asked_err : (e : Entry A) (m : Mark) → e ≡ marked m → Outcome N (asked e) (Err (Marked m))
-  asked_err e m h = subst (λ e. Outcome N (asked e) (Err (Marked m))) (sym h) refl
-
   module _ (f g : Formula A Car) (a b : A) (u : Outcome N f (Ok a)) (v : Outcome N g (Ok b)) where
     pub plus_ok : (k : A) → N.value k ≡ N.value a ⊕ N.value b → Outcome N (plus f g) (Ok k)
     plus_ok k e = let x = e ∙ ap₂ ◌⊕◌ u.1 v.1 in ((u.0, v.0, (k, x)), x)
-
-    pub minus_ok : (k : A) → N.value k ≡ N.value a ⊕ neg (N.value b) → Outcome N (minus f g) (Ok k)
-    minus_ok k e = let x = e ∙ ap₂ (λ s t. s ⊕ neg t) u.1 v.1 in ((u.0, v.0, (k, x)), x)
-
-    pub times_ok : (k : A) → N.value k ≡ N.value a ⊗ N.value b → Outcome N (times f g) (Ok k)
-    times_ok k e = let x = e ∙ ap₂ ◌⊗◌ u.1 v.1 in ((u.0, v.0, (k, x)), x)
 
     pub over_ok : (k : A) → (N.value b ≢ 𝟘) × (N.value k ≡ N.value a ⊗ inv (N.value b)) → Outcome N (over f g) (Ok k)
     over_ok k q = let x = q.1 ∙ ap₂ (λ s t. s ⊗ inv t) u.1 v.1 in ((u.0, v.0, ((λ z. q.0 (v.1 ∙ z)), (k, x))), x)
 
     pub plus_err : (¬ Holds N (N.value a ⊕ N.value b)) → Outcome N (plus f g) (Err TooLarge)
     plus_err n = inr (inr (u.0, v.0, (λ h. n (h.0, h.1 ∙ sym (ap₂ ◌⊕◌ u.1 v.1))), refl))
-
-    pub minus_err : (¬ Holds N (N.value a ⊕ neg (N.value b))) → Outcome N (minus f g) (Err TooLarge)
-    minus_err n = inr (inr (u.0, v.0, (λ h. n (h.0, h.1 ∙ sym (ap₂ (λ s t. s ⊕ neg t) u.1 v.1))), refl))
-
-    pub times_err : (¬ Holds N (N.value a ⊗ N.value b)) → Outcome N (times f g) (Err TooLarge)
-    times_err n = inr (inr (u.0, v.0, (λ h. n (h.0, h.1 ∙ sym (ap₂ ◌⊗◌ u.1 v.1))), refl))
 
     pub over_err : (¬ Divides N (N.value a) (N.value b)) → Outcome N (over f g) (Err TooLarge)
     over_err n = inr (inr (u.0, v.0, (λ h. n ((λ z. h.0 (sym v.1 ∙ z)), (h.1.0, h.1.1 ∙ sym (ap₂ (λ s t. s ⊗ inv t) u.1 v.1)))), refl))
