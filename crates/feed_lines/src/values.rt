@@ -43,6 +43,7 @@ pub fn factors(text: &[u8], out: &mut [i8]) -> Option<()>
     if text.split(|b| *b == b',').count() != out.len() {
         return None;
     }
+    // by index: of what is written through `iter_mut` a proof knows nothing
     for (k, word) in text.split(|b| *b == b',').enumerate() {
         out[k] = integer(word, 99)? as i8;
     }
