@@ -26,7 +26,7 @@ fn next_number<L: Line>(
     })
 }
 
-// The rows of the next lateness, of which a line has four at most.
+// The rows of the next lateness, of which a line has four at most: they lie in place, so that no call wants memory.
 pub fn next_lateness<L: Line>(
     at: Departing,
     line: &L,

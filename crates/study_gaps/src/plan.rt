@@ -19,7 +19,7 @@ impl Input<'_> {
     }
 }
 
-// The rows of the plan, worked from the last input to the first.
+// The rows of the plan, worked from the last input to the first. They lie in place, so that no call wants memory.
 pub(super) fn plan_rows<N: Number + Copy>(
     here: Departing,
     gains: &[Parts],

@@ -163,7 +163,7 @@ pub(super) fn perform_one<W: Work, L: Line>(
 }
 
 impl<N: Kind + Copy> Study<N> {
-    // Lets the study go; an order that is still out is withdrawn. Each state by its own arm: a study in any state is not let go.
+    // Lets the study go, arm by arm, since one that may hold an order has no drop; an order that is still out is withdrawn.
     pub(super) fn leave(self) {
         match self {
             Study::New(_) => {}
