@@ -45,6 +45,7 @@ impl<'a, L: Line> Border<'a, L> {
         ensures { Answer (column L.Number.Number.value L.Number.Kind.find (aim self.now.over.now.aims) (L.Line.meaning self.now.over.now.below) self.now.mark self.now.stop row self.now.last self.now.first (states_aimed (L.Line.meaning self.now.over.now.below).nx)) result }
     {
         let mut sum = self.over.below.g(self.stop, row, self.last)?;
+        // k is a state and not a place in a list, and the first refusal ends the loop
         for k in 0..self.over.below.states().min(4) {
             sum = self.column_less(row, k, sum)?;
         }

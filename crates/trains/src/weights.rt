@@ -43,6 +43,7 @@ impl Places {
         requires { length trains.now ≤ 64 }
         ensures { result ≡ weighed self.stop self.first self.states trains.now row column }
     {
+        // a loop, since nothing bounds the sum of an iterator's signed numbers
         let mut sum = 0;
         for t in trains {
             if usize::from(t.stop) == self.stop {
