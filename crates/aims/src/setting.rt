@@ -1,5 +1,5 @@
 // Aims are laid and set.
-ghost use Rattle.std.specs.Prelude.{◌≡◌, ℕ, ◌<◌, length, pos, MatchResult, slice_set};
+ghost use Rattle.std.specs.Prelude.{◌≡◌, ℕ, ◌<◌, length, pos, Some, MatchResult, codes, slice_set};
 ghost use Rattle.aims.specs.Aimed.{aim, aim_fault, aims_line, Settable, Replaced};
 ghost use Rattle.aims.specs.Shifting.{Shifts};
 
@@ -19,18 +19,16 @@ impl AimFault {
 }
 
 impl fmt::Display for AimFault {
+    ghost output = { λ _. Some (codes "refused 6: no such stop or state, or a value beyond 999 in size") };
+
     fn fmt<W: fmt::Write>(&self, f: &mut fmt::Formatter<W>) -> fmt::Result {
-        let number = self.number();
-        write!(
-            f,
-            "refused {number}: no such stop or state, or a value beyond 999 in size"
-        )
+        f.write_str("refused 6: no such stop or state, or a value beyond 999 in size")
     }
 }
 
 impl Error for AimFault {}
 
-// Puts an aim in its place among those of a stop.
+// Puts an aim in its place among those of a stop. It stands alone, since a proof knows the length of a row only where it is a parameter.
 fn put(aims: &mut [i16; 4], state: usize, aim: i16)
     requires { state < 4 }
     ensures four { length aims.old ≡ 4 }
@@ -66,6 +64,7 @@ impl<L: Line> Aims<L> {
         if value < -999 || value > 999 {
             return Err(AimFault::BadAim);
         }
+        // the test above bounds it: a TryFrom would add a refusal that cannot come
         put(&mut self.aims[stop], state, value as i16);
         Ok(())
     }

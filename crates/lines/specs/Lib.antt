@@ -7,6 +7,7 @@
 --   Tables      the order of a table's numbers, and the line that they give
 --   Steadies    the order of a steady line's numbers, and the line that they give with a final weight
 --   Opening     when numbers are opened as a line, and when they are refused
+--   Sentences   what refusals print
 --   Fractions   the fraction with given lowest parts
 --   Roots       the number with a root that has given lowest parts
 pub mod Meaning
@@ -16,6 +17,7 @@ pub mod Whole
 pub mod Tables
 pub mod Steadies
 pub mod Opening
+pub mod Sentences
 pub mod Fractions
 pub mod Roots
 -- From here on lemmas: the laws of the implementations follow from them, and a term of src/ that shows a law cannot cite proofs/. They are proved;

@@ -49,12 +49,6 @@ module _ {A : Type 0} {D : ℕ} (value : A → Exact D) (find : ℤ → ℤ → 
   means m w v x e s h =
       subst (λ (y : Exact D). Means value (entry_of find m (whole_e D w)) y) (ap (whole_e D) e ∙ h) (entry_means value find finds (whole_e D w) m (subst (λ (y : ℤ). Held value (whole_e D y)) (sym e) (wholes v s)))
 
-  abbrev test_F : ℕ → ℕ → ℕ → Bool
-  test_F n k c = nat_lt n end && nat_lt k (suc nx) && nat_lt c (nu + suc nx)
-
-  abbrev inner : ℕ → ℕ → ℕ → ℤ
-  inner n k c = cond (nat_lt k nx) (f n k c) (cond (nat_lt c (nu + nx)) (pos 0) (pos 1))
-
   pub whole_lawful : Lawful value here
   whole_lawful = record {
     outside_F = λ n k c o. means (place_mark 0 n k c) (whole_F end nx nu f n k c) (pos 0) (zero_e D)

@@ -15,12 +15,9 @@ pub(super) fn number_at(numbers: &[i64], index: usize) -> i64
 pub(super) fn size_at(numbers: &[i64], index: usize, most: u8) -> Option<u8>
     ensures { MatchOption result ((n : ℕ) → Size most (cell numbers.now index) n → ⊥) (Size most (cell numbers.now index)) }
 {
-    let size = u8::try_from(number_at(numbers, index)).ok()?;
-    if size < 1 || size > most {
-        None
-    } else {
-        Some(size)
-    }
+    u8::try_from(number_at(numbers, index))
+        .ok()
+        .filter(|size| 1 <= *size && *size <= most)
 }
 
 // The first index from `from` on of a number beyond ±9,999.

@@ -1,7 +1,8 @@
 // The numbers under which refusals are reported, and their sentences.
-ghost use Rattle.std.specs.Prelude.{◌≡◌};
+ghost use Rattle.std.specs.Prelude.{◌≡◌, Some};
 ghost use Rattle.lines.specs.Meaning.{line_fault};
 ghost use Rattle.lines.specs.Opening.{open_fault};
+ghost use Rattle.lines.specs.Sentences.{fault_text, mark_text, open_text};
 
 use super::faults::{LineFault, Mark, OpenFault};
 use std::error::Error;
@@ -9,6 +10,8 @@ use std::fmt;
 
 // `mark 1 0 2 2`: level, stop, row, column
 impl fmt::Display for Mark {
+    ghost output = { λ m. Some (mark_text m) };
+
     fn fmt<W: fmt::Write>(&self, f: &mut fmt::Formatter<W>) -> fmt::Result {
         let level = self.level;
         let stop = self.stop;
@@ -27,12 +30,13 @@ impl LineFault {
 }
 
 impl fmt::Display for LineFault {
+    ghost output = { λ f. Some (fault_text f) };
+
     fn fmt<W: fmt::Write>(&self, f: &mut fmt::Formatter<W>) -> fmt::Result {
-        let number = self.number();
         let mark = self.mark;
         write!(
             f,
-            "refused {number} at {mark}: the number there is too large for its kind"
+            "refused 1 at {mark}: the number there is too large for its kind"
         )
     }
 }
@@ -52,20 +56,19 @@ impl OpenFault {
 }
 
 impl fmt::Display for OpenFault {
+    ghost output = { λ f. Some (open_text f) };
+
     fn fmt<W: fmt::Write>(&self, f: &mut fmt::Formatter<W>) -> fmt::Result {
-        let number = self.number();
         match self {
-            OpenFault::BadHeader => write!(
-                f,
-                "refused {number}: the header is missing, or a size is outside its limits"
-            ),
-            OpenFault::BadLength => write!(
-                f,
-                "refused {number}: there are more or fewer numbers than the header asks for"
-            ),
+            OpenFault::BadHeader => {
+                f.write_str("refused 3: the header is missing, or a size is outside its limits")
+            }
+            OpenFault::BadLength => {
+                f.write_str("refused 4: there are more or fewer numbers than the header asks for")
+            }
             OpenFault::BadEntry { index } => write!(
                 f,
-                "refused {number} at index {index}: the number is beyond 9999 in size"
+                "refused 5 at index {index}: the number is beyond 9999 in size"
             ),
         }
     }

@@ -1,6 +1,6 @@
 #![tactic(auto, using(crate::specs::Finding::worked))]
 
-// Numbers worked at a place of a line: a fault takes the mark of that place.
+// Numbers worked at a place of a line: a fault takes the mark of that place. One function for each operation, since each contract names its own.
 ghost use Rattle.algebra.specs.Exact.{whole_e, add_e, neg_e, mul_e};
 ghost use Rattle.lines.specs.Kinds.{Worked};
 

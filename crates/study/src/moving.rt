@@ -45,7 +45,7 @@ impl<N: Kind + Copy> Ordered<N> {
     ) -> Result<Underway<N>, (Ordered<N>, StudyFault)>
         ensures { ConfirmPromise N.Number self (L.Line.meaning line.now) made.now trail.old trail.new result }
     {
-        // a match, and so in the other calls: a closure of map_err that is not called would let the order go unspent
+        // a match: a closure of map_err that is not called would let the order go unspent
         match confirm_at(self.at, line, made, trail) {
             Ok(at) => {
                 self.settle();

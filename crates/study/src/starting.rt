@@ -24,6 +24,7 @@ impl<N: Kind + Copy> New<N> {
     ) -> Result<Weighed<N>, (New<N>, StudyFault)>
         ensures { WeighPromise N.Number self (L.Line.meaning line.now) gains.old gains.new scratch.old scratch.new result }
     {
+        // a match, and so in propose: over map and map_err, as begin has them, the proof was tried and did not close
         match W::weigh_line(line, gains, scratch) {
             Ok(sizes) => Ok(Weighed {
                 sizes,
@@ -43,12 +44,11 @@ impl<N: Kind + Copy> Weighed<N> {
     ) -> Result<Underway<N>, (Weighed<N>, StudyFault)>
         ensures { BeginPromise N.Number self start.now trail.old trail.new result }
     {
-        match begin_trail::<N>(self.sizes, start, trail) {
-            Ok(at) => Ok(Underway {
+        begin_trail::<N>(self.sizes, start, trail)
+            .map(|at| Underway {
                 at,
                 kind: PhantomData,
-            }),
-            Err(fault) => Err((self, fault)),
-        }
+            })
+            .map_err(|fault| (self, fault))
     }
 }

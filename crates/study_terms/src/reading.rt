@@ -8,7 +8,7 @@ use numbers::{Number, Parts};
 // The row in which every kind writes 0.
 pub const ZERO: Parts = Parts { p: 0, q: 0, m: 1 };
 
-// The number 0 of a kind. It and 1 each promise the exact number by its own name, as the formulas have it.
+// The number 0 of a kind. A function for 0 and one for 1: formulas name them `zero_e` and `one_e`.
 pub fn zero<N: Number>() -> N
     ensures { N.Number.value result ≡ zero_e N.Number.radicand }
 {

@@ -1,5 +1,5 @@
 // A book is asked whether it fits a line, and is laid over it.
-ghost use Rattle.std.specs.Prelude.{◌≡◌, MatchResult};
+ghost use Rattle.std.specs.Prelude.{◌≡◌, Some, MatchResult, codes};
 ghost use Rattle.feeds.specs.Held.{held};
 ghost use Rattle.aims.specs.Aimed.{aim, aims_line};
 ghost use Rattle.trains.specs.Adding.{Adds, ShiftsAndAdds};
@@ -25,12 +25,10 @@ impl FitFault {
 }
 
 impl fmt::Display for FitFault {
+    ghost output = { λ _. Some (codes "refused 7: the sizes of the feeds are not those of the line") };
+
     fn fmt<W: fmt::Write>(&self, f: &mut fmt::Formatter<W>) -> fmt::Result {
-        let number = self.number();
-        write!(
-            f,
-            "refused {number}: the sizes of the feeds are not those of the line"
-        )
+        f.write_str("refused 7: the sizes of the feeds are not those of the line")
     }
 }
 
