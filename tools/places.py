@@ -107,7 +107,7 @@ row('3d a count kept beside a loop', found(r'^\s*\w+ (?:\+|-)= 1;|^\s*(\w+) = \1
 row('4a Clone, Copy or a comparison written by hand', found(r'^impl(?:<[^\n{]*>)? (?:Clone|Copy|PartialEq|Eq|PartialOrd|Ord|Hash|Default) for [^{]*|fn (?:same|equals|same_\w+)\b'))
 row('4b From written by hand', found(r'^impl[^\n]*\bFrom<[^\n]* for [^{\n]*'))
 row('4c a sentence made outside Display', found(r'fn (?:told|sentence|refusal)\b'))
-row('4d as, between kinds of number', found(r'[\w.()]+ as (?:u8|u16|u32|u64|usize|i8|i16|i32|i64)\b'))
+row('4d as, between kinds of number', found(r'[\w.()?]+ as (?:u8|u16|u32|u64|usize|i8|i16|i32|i64)\b'))
 row('5 facts in three contracts, parameters together in four', repeated())
 row('6a arrays of a fixed size', found(r'\[[\w:]+; [A-Z0-9]\w*\]'))
 row('6b an item by an index that is worked out', found(r'\b[\w.]+\[\w+ [*+-][^\]]*\]'))

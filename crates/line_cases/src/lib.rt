@@ -3,7 +3,7 @@
 // A line of another crate under the layers: it tells any sizes that its type holds.
 ghost use Rattle.std.specs.Prelude.{◌≡◌};
 ghost use Rattle.line_cases.specs.Bare.{bare_line, zeros};
-ghost use Rattle.lines.specs.Whole.{whole_F, whole_G};
+ghost use Rattle.lines.specs.Whole.{whole_F};
 ghost use Rattle.numbers.specs.Fractions.{fraction_value};
 ghost use Rattle.numbers.specs.FractionKind;
 ghost use Rattle.lines.specs.Fractions.{find_fraction};

@@ -49,6 +49,9 @@ fn table_refusals(rt: HostRuntime) -> Result<(), Fail> {
         refusal(&[1, 1, 1, 1, 1, 0, 1, 0, 10000, 1, 0, 0, 1, 0, 0]),
         5
     );
+    // owned or lent, a list is opened alike
+    assert!(rt; Table::open([2, 1].to_vec(rt.alloc())?).is_err());
+    assert_eq!(rt; refusal(&[1, 1, 1, 1, 1, 0, 1, 0, 1, 1, 0, 0, 1, 0, 0]), 0);
     Ok(())
 }
 

@@ -1,4 +1,5 @@
-// Why the program stops before its end. It prints as one sentence, and the process ends with status 1.
+// Why the program stops before its end. It prints as one sentence, and the process ends with status 1. An enum of its own, since anyhow's
+// error keeps 120 bytes of a message, and a refusal here may hold a whole page of help.
 use std::alloc::AllocError;
 use std::{fmt, io};
 use thiserror::Error;

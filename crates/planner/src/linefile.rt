@@ -14,7 +14,7 @@ pub fn read_table(rt: &HostRuntime, name: &str) -> Result<Table, Failure> {
     Table::open(numbers).or_else(|fault| match fault {
         OpenFault::BadEntry { index } => {
             let number = fault.number();
-            let place = place_of(text.as_str(), index);
+            let place = place_of(text.as_str(), index).unwrap_or(0);
             fail(
                 rt,
                 format_args!(
@@ -43,13 +43,13 @@ fn read_numbers(rt: &HostRuntime, name: &str, text: &str) -> Result<Vec<i64>, Fa
 }
 
 // The line of a file, from 1, on which the word with this index stands, from 0.
-fn place_of(text: &str, index: usize) -> usize {
-    let mut before: usize = 0;
-    for (place, line) in (1usize..).zip(text.lines()) {
-        before = before.saturating_add(files::without_comment(line).split_whitespace().count());
-        if index < before {
-            return place;
-        }
-    }
-    0
+fn place_of(text: &str, index: usize) -> Option<usize> {
+    (1usize..)
+        .zip(text.lines())
+        .flat_map(|(place, line)| {
+            files::without_comment(line)
+                .split_whitespace()
+                .map(move |_| place)
+        })
+        .nth(index)
 }

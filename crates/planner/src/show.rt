@@ -118,6 +118,7 @@ fn show<L: Line<Number = Fraction>>(rt: &HostRuntime, line: &L) -> Result<(), Fa
     show_g(rt, line, stops, states.saturating_add(1))
 }
 
+// F at a stop, and below it G: each has its own rows, columns and call, which one function would take all three.
 fn show_f<L: Line<Number = Fraction>>(
     rt: &HostRuntime,
     line: &L,

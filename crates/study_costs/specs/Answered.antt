@@ -30,12 +30,12 @@ module _ {A : Type 0} (N : Ghosts A) where
         (a.sizes ≡ d.sizes) × (a.stop ≡ suc d.stop) × ConfirmGranted N (shape d.sizes) m d.stop made trail trail'
     ConfirmAnswer d made trail trail' (Err e) = RefusedWith N (confirm_checks N (shape d.sizes) m d.stop made trail) (refusal e) × (trail' ≡ trail)
 
-    abbrev pub next_number_lem : Departing → (made trail : List Parts) → ℕ → Formula A (NumberOf N)
-    next_number_lem d made trail j = next_formula N (shape d.sizes) m d.stop j (at N made) (x_at N (shape d.sizes) trail d.stop)
+    abbrev pub next_at : Departing → (made trail : List Parts) → ℕ → Formula A (NumberOf N)
+    next_at d made trail j = next_formula N (shape d.sizes) m d.stop j (at N made) (x_at N (shape d.sizes) trail d.stop)
 
     abbrev pub next_checks : Departing → (made trail : List Parts) → Checks A (NumberOf N)
-    next_checks d made trail = each 0 d.sizes.states (λ j. number (λ _. bare 42) (next_number_lem d made trail j))
+    next_checks d made trail = each 0 d.sizes.states (λ j. number (λ _. bare 42) (next_at d made trail j))
 
     abbrev pub NextAnswer : Departing → (made trail : List Parts) → Result (List Parts) StudyFault → Type 0
-    NextAnswer d made trail (Ok rows) = WorkedRows N (next_number_lem d made trail) d.sizes.states rows
+    NextAnswer d made trail (Ok rows) = WorkedRows N (next_at d made trail) d.sizes.states rows
     NextAnswer d made trail (Err e) = RefusedWith N (next_checks d made trail) (refusal e)

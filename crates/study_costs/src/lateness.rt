@@ -1,6 +1,6 @@
 // The next lateness.
 ghost use Rattle.study_terms.specs.Formulas.{Outcome};
-ghost use Rattle.study_costs.specs.Answered.{NextAnswer, next_number_lem};
+ghost use Rattle.study_costs.specs.Answered.{NextAnswer, next_at};
 
 use super::lists::stacked_entry;
 use lines::line::Line;
@@ -17,7 +17,7 @@ fn next_number<L: Line>(
     made: &[Parts],
     trail: &[Parts],
 ) -> Result<L::Number, Below>
-    ensures { Outcome L.Number.Number (next_number_lem L.Number.Number (L.Line.meaning line.now) at made.now trail.now row) result }
+    ensures { Outcome L.Number.Number (next_at L.Number.Number (L.Line.meaning line.now) at made.now trail.now row) result }
 {
     let lateness = Standing::from(at).lateness(trail);
     add_terms(zero(), at.sizes.wide(), |c| {

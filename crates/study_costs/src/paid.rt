@@ -1,6 +1,6 @@
 // What is paid.
 ghost use Rattle.std.specs.Prelude.{◌≤◌};
-ghost use Rattle.study_terms.specs.Calls.{stage_formula, paid_formula, paid_checks, paid_at, AnswerPromise};
+ghost use Rattle.study_terms.specs.Calls.{stage_formula, paid_checks, paid_at, AnswerPromise};
 ghost use Rattle.study_terms.specs.Formulas.{Outcome};
 ghost use Rattle.study_terms.specs.Sized.{shape};
 

@@ -1,5 +1,5 @@
-// The sizes that a line tells, and the room that sheets of these sizes need.
-ghost use Rattle.std.specs.Prelude.{◌≡◌, suc, ◌+◌, T, MatchOption, length};
+// The sizes that a line tells, and the room that sheets of these sizes need and are asked for.
+ghost use Rattle.std.specs.Prelude.{◌≡◌, ◌+◌, T, MatchOption, length};
 ghost use Rattle.study_terms.specs.Sized.{shape};
 ghost use Rattle.study_terms.specs.Room.{LongSheets};
 ghost use Rattle.study_terms.specs.Shapes.{shape_of, in_limits, same_shape, width, gains_need, scratch_need, trail_need};
@@ -63,6 +63,7 @@ impl Sizes {
     {
         self.stops * (self.states + self.inputs) + self.states
     }
+
     // Whether a gains sheet and a trail have this room.
     pub fn check_sheets(self, gains: &[Parts], trail: &[Parts]) -> Result<(), StudyFault>
         ensures { LongSheets (shape self) (length gains.now) (length trail.now) result }
