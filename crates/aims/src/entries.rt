@@ -85,6 +85,7 @@ impl<L: Line> Line for Aims<L> {
 
     ghost levelled = { λ s. aims_levelled L.Number.Number.value L.Number.Kind.find (aim s.aims) (L.Line.meaning s.below) (L.Line.levelled s.below) };
 
+    // passed on call by call: one impl for all layers would overlap those of the lines at the bottom
     fn stops(&self) -> usize {
         self.below.stops()
     }

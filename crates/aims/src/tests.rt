@@ -7,7 +7,7 @@ use lines::table::Table;
 use numbers::{Fraction, Number};
 use std::test::Fail;
 
-// The whole number that an entry is; −99 for any other answer.
+// The whole number that an entry is; −99 for any other answer. Each crate's tests have it: a shared one would be a public call.
 fn whole(entry: Result<Fraction, LineFault>) -> i64 {
     entry
         .ok()

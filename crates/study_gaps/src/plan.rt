@@ -28,6 +28,7 @@ pub(super) fn plan_rows<N: Number + Copy>(
     ensures { PlanAnswered N.Number here gains.now trail.now result }
 {
     let mut plan = [ZERO; 3];
+    // by index: each adjustment reads the later ones of the list that it is written to
     for index in (0..here.sizes.inputs).rev() {
         let input = Input {
             here,

@@ -52,6 +52,7 @@ impl<L: Line> Line for Trains<L> {
 
     ghost levelled = { λ s. trains_levelled L.Number.Number.value L.Number.Kind.find (held s.book) (L.Line.meaning s.below) (L.Line.levelled s.below) };
 
+    // passed on call by call: one impl for all layers would overlap those of the lines at the bottom
     fn stops(&self) -> usize {
         self.below.stops()
     }

@@ -62,6 +62,7 @@ impl<N: Kind + Copy> Line for Steady<N> {
         0
     }
 
+    // like the table's: one impl for all lines at the bottom would overlap those of the layers
     fn f(&self, stop: usize, row: usize, column: usize) -> Result<N, LineFault> {
         let mark = Mark::at(0, stop, row, column);
         Ok(whole_at(self.f_number(stop, row, column), mark)?)
