@@ -6,6 +6,7 @@ ghost use Rattle.feed_lines.specs.Lexing.{key_of, value_of};
 use feed_types::keys::Key;
 
 // A line by its key, with the bytes of the feed that are its value.
+// An enum, and not a key beside a value: a line is passed on as its key and value in one, which is the project's form.
 #[derive(Clone, Copy)]
 pub enum Token<'a> {
     Stops(&'a [u8]),

@@ -8,7 +8,6 @@ ghost use Rattle.std.specs.Fmt.{signed_decimal};
 
 // The number that these bytes write in decimal, if it is from `least` to `most`.
 pub fn unsigned(text: &[u8], least: u16, most: u16) -> Option<u16>
-    requires { most ≤ 999 }
     ensures { MatchOption result (Counts least most text.now → ⊥) (λ n. (least ≤ n) × (n ≤ most) × (text.now ≡ decimal n)) }
 {
     let first = *text.first()?;
@@ -29,6 +28,7 @@ pub fn integer(text: &[u8], most: u16) -> Option<i16>
     requires { most ≤ 999 }
     ensures { MatchOption result (Integers most text.now → ⊥) (λ z. Within most z × (text.now ≡ signed_decimal z)) }
 {
+    // at most `most`, so the casts keep the number
     match text {
         [b'-', digits @ ..] => Some(-(unsigned(digits, 1, most)? as i16)),
         _ => Some(unsigned(text, 0, most)? as i16),
@@ -43,7 +43,7 @@ pub fn factors(text: &[u8], out: &mut [i8]) -> Option<()>
     if text.split(|b| *b == b',').count() != out.len() {
         return None;
     }
-    // by index: of what is written through `iter_mut` a proof knows nothing
+    // by index: a zip over `iter_mut` leaves a proof nothing of what is written
     for (k, word) in text.split(|b| *b == b',').enumerate() {
         out[k] = integer(word, 99)? as i8;
     }

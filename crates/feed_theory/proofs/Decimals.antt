@@ -25,10 +25,6 @@ read_on n (c ∷ cs) = read_on (n * 10 + (c - 48)) cs
 own : IsNumeralModel (λ ds. all_ascii_digits ds ≡ true) (read_on 0)
 own = numerals_by_fold _ (search rules) read_on (search rules)
 
-pub read_on_ge : (n : ℕ) (cs : List ℕ) → n ≤ read_on n cs
-read_on_ge n [] = omega arith
-read_on_ge n (c ∷ cs) = let h = read_on_ge (n * 10 + (c - 48)) cs in omega arith
-
 pub empty_text : (m : ℕ) → m < 2 ^ 64 → (bs : List ℕ) → length bs ≡ 0 → bs ≡ decimal m → ⊥
 empty_text m w bs z e = omega (arith, decimal_nonempty m w, ap length e)
 

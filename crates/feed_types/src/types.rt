@@ -1,4 +1,7 @@
 // The plain rows of a feed: its sizes, and its trains with their labels.
+ghost use Rattle.std.specs.Prelude.{◌≡◌, Decides};
+ghost use Rattle.feed_types.specs.declared.types.Label.{Label};
+ghost use Rattle.feed_types.specs.declared.types.Train.{Train};
 
 // The sizes of a line, as a feed's header gives them: the last stop N, the number of states, the number of inputs.
 #[derive(Clone, Copy, PartialEq, Eq, Debug)]
@@ -27,3 +30,9 @@ pub struct Train {
     pub moves: [i8; 3],
     pub aim: i16,
 }
+
+// `==` of labels and of trains is equality of all their values. The function carries the theorem in its contract.
+pub fn equality_is_of_all_values()
+    ensures labels { (l m : Label) → Decides (⟦<Label as PartialEq>⟧.eq l m) (l ≡ m) }
+    ensures trains { (t u : Train) → Decides (⟦<Train as PartialEq>⟧.eq t u) (t ≡ u) }
+{}

@@ -31,6 +31,7 @@ impl<'a> Blocks<'a> {
         }
         let aim = lines.integer(Key::Aim, 999)?;
         let train = Train {
+            // at most the last stop, so it fits
             stop: stop as u8,
             label,
             weight,

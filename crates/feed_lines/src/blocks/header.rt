@@ -14,14 +14,14 @@ use feed_types::keys::Key;
 use feed_types::types::Sizes;
 
 // The size on the next line of a header, which is to be the book's, if it has sizes.
-fn size(lines: &mut Lines, key: Key, most: u16, held: Option<u8>) -> Result<u8, FeedFault>
-    requires { most ≤ 24 }
+fn size(lines: &mut Lines, key: Key, most: u8, held: Option<u8>) -> Result<u8, FeedFault>
     ensures { MatchResult result
         (λ n. (lines.new.feed.now ≡ lines.old.feed.now) × ReadSize lines.old.feed.now lines.old.place key most held n lines.new.place)
         (BadSize key most held (left lines.old) lines.old.place.line) }
 {
     let line = lines.line();
-    let n = lines.count(key, 1, most)? as u8;
+    // at most `most`, so it fits
+    let n = lines.count(key, 1, u16::from(most))? as u8;
     if held.is_some_and(|m| m != n) {
         return Err(FeedFault::OtherSize { line });
     }

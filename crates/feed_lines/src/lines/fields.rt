@@ -1,5 +1,5 @@
 // The lines of a feed by their keys: each is read as its value, or refused with its number.
-ghost use Rattle.std.specs.Prelude.{◌≡◌, ◌≤◌, take, decimal, MatchResult};
+ghost use Rattle.std.specs.Prelude.{◌≡◌, ◌≤◌, ⊤, take, decimal, MatchResult};
 ghost use Rattle.std.specs.Fmt.{signed_decimal};
 ghost use Rattle.feed_types.specs.declared.keys.Key.TheVariants as keys;
 ghost use Rattle.feed_types.specs.Fields.{Counts, Lists, Integers, BadLine};
@@ -25,7 +25,6 @@ impl<'a> Lines<'a> {
 
     // A number from `least` to `most`.
     pub fn count(&mut self, key: Key, least: u16, most: u16) -> Result<u16, FeedFault>
-        requires { most ≤ 999 }
         ensures { MatchResult result (λ n. (least ≤ n) × (n ≤ most) × Passes self.old key (decimal n) self.new) (BadLine key (Counts least most) (left self.old) self.old.place.line) }
     {
         let line = self.place.line;
@@ -46,7 +45,7 @@ impl<'a> Lines<'a> {
     // `count` factors, and zeros after them.
     pub fn factors<const N: usize>(&mut self, key: Key, count: u8) -> Result<[i8; N], FeedFault>
         requires { (1 ≤ count) × (count ≤ N) }
-        ensures { MatchResult result (λ zs. Factors count N zs × Passes self.old key (commas (take count zs)) self.new) (BadLine key (Lists count N (λ _. Unit {0})) (left self.old) self.old.place.line) }
+        ensures { MatchResult result (λ zs. Factors count N zs × Passes self.old key (commas (take count zs)) self.new) (BadLine key (Lists count N (λ _. ⊤)) (left self.old) self.old.place.line) }
     {
         let line = self.place.line;
         let value = self.expect(key)?;
