@@ -7,7 +7,7 @@ mod fields;
 mod next;
 
 // A feed, and the place of the line that is read next.
-#[derive(Drop)]
+#[derive(Clone, Copy)]
 pub struct Lines<'a> {
     feed: &'a [u8],
     place: Place,

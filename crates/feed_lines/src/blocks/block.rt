@@ -13,13 +13,14 @@ impl<'a> Blocks<'a> {
     pub fn next_block(&mut self) -> Result<Option<(Train, usize)>, FeedFault>
         ensures { MatchResult result
             (λ o. MatchOption o ((self.old.lines.place.at ≡ length self.old.lines.feed.now) × (self.new ≡ self.old)) (λ x. NextBlock self.old x.0 x.1 self.new))
-            (λ e. (self.old.lines.place.at < length self.old.lines.feed.now) × BadBlock self.old.sizes (left self.old.lines) self.old.lines.place.line e) }
+            (λ e. (self.old.lines.place.at < length self.old.lines.feed.now) × (self.new ≡ self.old) × BadBlock self.old.sizes (left self.old.lines) self.old.lines.place.line e) }
     {
         if self.lines.is_done() {
             return Ok(None);
         }
         let last = u16::from(self.sizes.stops);
-        let lines = &mut self.lines;
+        // a copy, which is kept only where the whole block is read
+        let mut lines = self.lines;
         let label = lines.label()?;
         let stop = lines.count(Key::Stop, 0, last)?;
         let weight = lines.count(Key::Weight, 1, 999)?;
@@ -39,6 +40,7 @@ impl<'a> Blocks<'a> {
             moves,
             aim,
         };
+        self.lines = lines;
         Ok(Some((train, lines.line() - 1)))
     }
 }
