@@ -45,6 +45,7 @@ pub fn factors(text: &[u8], out: &mut [i8]) -> Option<()>
     }
     // by index: a zip over `iter_mut` leaves a proof nothing of what is written
     for (k, word) in text.split(|b| *b == b',').enumerate() {
+        // between -99 and 99, so it fits
         out[k] = integer(word, 99)? as i8;
     }
     Some(())
