@@ -1,9 +1,5 @@
 -- Tests joined by `&&` and `||`. Assumes nothing.
-use Rattle.std.proofs.Common.{◌≡◌, Bool, true, false, ◌&&◌, ◌||◌, T, ◌⊎◌, refl, inl, inr}
-
-pub or_cases : (a b : Bool) → T (a || b) → T a ⊎ T b
-or_cases true b t = inl tt
-or_cases false b t = inr t
+use Rattle.std.proofs.Common.{◌≡◌, Bool, true, false, ◌&&◌, ◌||◌, T, refl}
 
 pub or_left : (a b : Bool) → T a → T (a || b)
 or_left true b t = tt

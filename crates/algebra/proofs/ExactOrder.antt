@@ -1,5 +1,6 @@
 -- Exact numbers are an ordered field. Assumes nothing.
 use Rattle.std.proofs.Common.{◌≡◌, ℕ, zero, suc, ◌*◌, ◌<◌, ◌≤◌, Bool, ◌&&◌, ◌||◌, T, ◌≢◌, ◌⊎◌, pos, nat_abs, sym, refl, ap, ◌∙◌, subst, inl, inr, arith, eqb→eq, lt→ltb}
+use Rattle.std.proofs.Math.Facts.{or_yes}
 use Rattle.algebra.specs.Ring.{Ordered, Inverses}
 use Rattle.algebra.specs.Rational.{ℚ, 0ℚ, 1ℚ, over, whole, addℚ, negq, mulℚ, invℚ, Posℚ}
 use Rattle.algebra.specs.Exact.{Exact, Radicand, root_part, zero_e, one_e, add_e, neg_e, mul_e, norm_e, inv_e, above, null, positive_e, PosE}
@@ -8,7 +9,7 @@ use Rattle.algebra.proofs.Rational.{ℚ_ring, ℚ_ordered, ℚ_inverses, is_zero
 use Rattle.algebra.proofs.Integers.{abs_zero}
 use Rattle.algebra.proofs.Irrational.{irrational, floor}
 use Rattle.algebra.proofs.ExactRing.{exact_ring, Pairs, both, both_inj, both_zero, both_one, both_add, both_neg, both_mul, flat_zero, kept, zero-mul}
-use Rattle.algebra.proofs.Booleans.{or_cases, or_left, or_right, and_split, and_join}
+use Rattle.algebra.proofs.Booleans.{or_left, or_right, and_split, and_join}
 use Rattle.algebra.proofs.OrderedRing as Ord
 use Rattle.algebra.proofs.QuadraticOrder as Quad
 
@@ -70,8 +71,8 @@ module _ (D : ℕ) (good : Radicand D) where
   -- the three cases as two
   pub to₂ : (x : Exact D) → PosE x → Pos₂ (both x)
   unfolding PosE positive_e norm_e
-  to₂ x t = elim (or_cases (c₁ || c₂) c₃ t) [
-    | inl u ↦ elim (or_cases c₁ c₂ u) [
+  to₂ x t = elim (or_yes (c₁ || c₂) c₃ t) [
+    | inl u ↦ elim (or_yes c₁ c₂ u) [
       | inl v ↦ first v
       | inr v ↦ inl ((and_split (above a) (above (negq b)) (and_split (above a && above (negq b)) (above (N a b)) v).0).0, (and_split (above a && above (negq b)) (above (N a b)) v).1)
     ]
@@ -98,11 +99,11 @@ module _ (D : ℕ) (good : Radicand D) where
           let s = and_split ((above a || null a) && (above b || null b)) (above a || above b) v in
           let r = and_split (above a || null a) (above b || null b) s.0 in
           elim (ℚ_ordered.tri (N a b)) [
-            | inl n ↦ elim (or_cases (above a) (null a) r.0) [ inl h ↦ inl (h, n) | inr z ↦ absurd (no_plus a b n (null_zero a z)) ]
+            | inl n ↦ elim (or_yes (above a) (null a) r.0) [ inl h ↦ inl (h, n) | inr z ↦ absurd (no_plus a b n (null_zero a z)) ]
             | inr (inl e) ↦
                 let z = Quad.zero-norm ℚ_ring ℚ_ordered ℚ_inverses (whole D) dn irr a b (flat x) e in
-                absurd (elim (or_cases (above a) (above b) s.1) [ inl h ↦ subst Posℚ z.0 h | inr h ↦ subst Posℚ z.1 h ])
-            | inr (inr n) ↦ elim (or_cases (above b) (null b) r.1) [ inl h ↦ inr (h, n) | inr z ↦ absurd (no_minus a b n (null_zero b z)) ]
+                absurd (elim (or_yes (above a) (above b) s.1) [ inl h ↦ subst Posℚ z.0 h | inr h ↦ subst Posℚ z.1 h ])
+            | inr (inr n) ↦ elim (or_yes (above b) (null b) r.1) [ inl h ↦ inr (h, n) | inr z ↦ absurd (no_minus a b n (null_zero b z)) ]
           ]
 
   pub from₂ : (x : Exact D) → Pos₂ (both x) → PosE x

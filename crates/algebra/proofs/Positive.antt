@@ -1,11 +1,12 @@
 -- A triple is positive exactly where its parts pass a test on whole numbers. Assumes nothing.
 use Rattle.std.proofs.Common.{◌≡◌, ℕ, zero, suc, ◌*◌, ◌<◌, Bool, ◌&&◌, ◌||◌, T, eqb, ℤ, pos, negsuc, ◌+ℤ◌, ◌*ℤ◌, neg_ℤ, nat_abs, ◌≤ℤ◌, ◌<ℤ◌, sym, refl, ap, ◌∙◌, subst, inl, inr, arith, eqb→eq, lt→ltb}
 use native.Mathlib.Nat as NatL
+use Rattle.std.proofs.Math.Facts.{or_yes}
 use Rattle.std.proofs.lemmas.Int.{ints}
 use Rattle.algebra.specs.Rational.{ℚ, whole, addℚ, negq, mulℚ, positive}
 use Rattle.algebra.specs.Exact.{exact, norm_e, above, null, positive_e, PosE}
 use Rattle.algebra.specs.Laws.{Plain, PositiveParts, PositiveOfParts}
-use Rattle.algebra.proofs.Booleans.{or_cases, or_left, or_right, and_split, and_join, same_test}
+use Rattle.algebra.proofs.Booleans.{or_left, or_right, and_split, and_join, same_test}
 use Rattle.algebra.proofs.RingSolver.{◌:+◌, ◌:*◌, :neg, lit, ◌≋◌, solve₂, solve₄}
 use Rattle.algebra.proofs.Integers.{ℤ_ring, ℤ_ordered, positive_mul, abs_zero}
 use Rattle.algebra.proofs.OrderedRing as Ord
@@ -109,7 +110,7 @@ one_of (pos zero) (negsuc b) h k n = elim k.le [ ]
 one_of (negsuc a) q h k n = elim h.le [ ]
 
 not_both_zero : (p q : ℤ) → T (positive p || positive q) → ¬ ((p ≡ pos 0) × (q ≡ pos 0))
-not_both_zero p q t e = elim (or_cases (positive p) (positive q) t) [ inl h ↦ subst (λ z. T (positive z)) e.0 h | inr h ↦ subst (λ z. T (positive z)) e.1 h ]
+not_both_zero p q t e = elim (or_yes (positive p) (positive q) t) [ inl h ↦ subst (λ z. T (positive z)) e.0 h | inr h ↦ subst (λ z. T (positive z)) e.1 h ]
 
 greater : (u v : ℤ) → pos 0 <ℤ (u +ℤ neg_ℤ v) → v <ℤ u
 greater u v h = omega (arith, ints)
@@ -125,8 +126,8 @@ less' u v h = omega (arith, ints)
 
 module _ (D : ℕ) (p q : ℤ) where
   test_cases : T (test D p q) → PositiveParts D p q
-  test_cases t = elim (or_cases ((positive p || eqb (nat_abs p) 0) && (positive q || eqb (nat_abs q) 0) && (positive p || positive q) || positive p && positive (neg_ℤ q) && positive (norm_z D p q)) (positive (neg_ℤ p) && positive q && positive (neg_ℤ (norm_z D p q))) t) [
-    | inl u ↦ elim (or_cases ((positive p || eqb (nat_abs p) 0) && (positive q || eqb (nat_abs q) 0) && (positive p || positive q)) (positive p && positive (neg_ℤ q) && positive (norm_z D p q)) u) [
+  test_cases t = elim (or_yes ((positive p || eqb (nat_abs p) 0) && (positive q || eqb (nat_abs q) 0) && (positive p || positive q) || positive p && positive (neg_ℤ q) && positive (norm_z D p q)) (positive (neg_ℤ p) && positive q && positive (neg_ℤ (norm_z D p q))) t) [
+    | inl u ↦ elim (or_yes ((positive p || eqb (nat_abs p) 0) && (positive q || eqb (nat_abs q) 0) && (positive p || positive q)) (positive p && positive (neg_ℤ q) && positive (norm_z D p q)) u) [
       | inl v ↦
           let s = and_split ((positive p || eqb (nat_abs p) 0) && (positive q || eqb (nat_abs q) 0)) (positive p || positive q) v in
           let r = and_split (positive p || eqb (nat_abs p) 0) (positive q || eqb (nat_abs q) 0) s.0 in

@@ -24,8 +24,5 @@ exact_discrete {D} x y = go (ℚ_discrete x.re y.re) (ℚ_discrete x.im y.im)
     go (yes p) (no f) = no (λ e. f (ap (λ (z : Exact D). z.im) e))
     go (no f) d = no (λ e. f (ap (λ (z : Exact D). z.re) e))
 
-pub ℚ_set : IsSet ℚ
-ℚ_set = hedberg ℚ_discrete
-
 pub exact_set : {D : ℕ} → IsSet (Exact D)
 exact_set = hedberg exact_discrete

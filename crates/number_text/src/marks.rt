@@ -6,7 +6,7 @@ ghost use Rattle.number_text.specs.Spelling.{Natural, Plain, Sum};
 use crate::digits::{positive, step, whole};
 use numbers::Parts;
 
-// m, which is not 0.
+// The number below the slash, which is not 0.
 fn divisor(text: &str) -> Option<i64>
     ensures { MatchOption result ((m : ℕ) → Natural text.now m → ¬ (0 < m)) (λ z. (pos 0 <ℤ z) × Natural text.now (unsigned_abs z)) }
 {

@@ -11,9 +11,6 @@ use Rattle.numbers.specs.Machine.{fits, word}
 pub abs_add : (x y : ℤ) → unsigned_abs (x +ℤ y) ≤ unsigned_abs x + unsigned_abs y
 abs_add x y = omega (arith, ints)
 
-pub product_fits : (x y : ℤ) → Small x y → FitsSigned w64 (x *ℤ y)
-product_fits x y h = fits (x *ℤ y) (let e = abs_mul x y in omega arith)
-
 pub products_fit : (a b c d : ℤ) → Small a b → Small c d → FitsSigned w64 ((a *ℤ b) +ℤ (c *ℤ d))
 products_fit a b c d h k =
     fits ((a *ℤ b) +ℤ (c *ℤ d)) (let s = abs_add (a *ℤ b) (c *ℤ d) in let e = abs_mul a b in let f = abs_mul c d in omega arith)

@@ -38,7 +38,7 @@ pub written : (k : Fraction) → Row 0 (fraction_row k) (fraction_value k)
 written k = Kind.written 0 fraction_size fraction_row formed k
 
 -- ---- reading
-pub row_formed : (row : Parts) → T (is_fraction_row row) → Formed 0 fraction_size row
+row_formed : (row : Parts) → T (is_fraction_row row) → Formed 0 fraction_size row
 row_formed row t =
     let s = and_split (unsigned_abs row.q == 0) (has_form fraction_size row) t in
     (s.1, λ e. abs_zero row.q (eqb→eq (unsigned_abs row.q) 0 s.0))

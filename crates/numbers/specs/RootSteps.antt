@@ -33,8 +33,8 @@ abbrev pub across : Parts → Parts → ℤ
 across a b = (a.q *ℤ b.p) -ℤ (a.p *ℤ b.q)
 
 -- the parts of a over b, before what they have in common is taken out
-abbrev pub raw_quotient_lem : ℤ → Parts → Parts → Parts
-raw_quotient_lem d a b = record {
+abbrev pub raw_parts : ℤ → Parts → Parts → Parts
+raw_parts d a b = record {
   p = (sign (norm d b) *ℤ b.m) *ℤ conjugate a.p a.q b.p b.q d;
   q = (sign (norm d b) *ℤ b.m) *ℤ across a b;
   m = a.m *ℤ (sign (norm d b) *ℤ norm d b);
@@ -55,14 +55,14 @@ module _ (D : ℕ) (good : Radicand D) (a b : Parts) (f : Plain D b.q) (n : ¬ (
   norm_ne : norm (pos D) b ≢ pos 0
   norm_ne = norm_nonzero D good b.p b.q f n
 
-  pub quotient_above : pos 0 <ℤ a.m → pos 0 <ℤ (raw_quotient_lem (pos D) a b).m
+  pub quotient_above : pos 0 <ℤ a.m → pos 0 <ℤ (raw_parts (pos D) a b).m
   quotient_above h = go a.m h
     where
       go : (m : ℤ) → pos 0 <ℤ m → pos 0 <ℤ (m *ℤ (sign (norm (pos D) b) *ℤ norm (pos D) b))
       go (pos m) h = subst (λ z. pos 0 <ℤ (pos m *ℤ z)) (sym (sign_abs (norm (pos D) b))) (record { lt = lt→ltb 0 (m * unsigned_abs (norm (pos D) b)) (NatL.mul-pos (ltb→lt 0 m h.lt) (abs_above (norm (pos D) b) norm_ne)) })
       go (negsuc m) h = elim h.lt [ ]
 
-  pub quotient_is : pos 0 <ℤ a.m → pos 0 <ℤ b.m → mul_e (row_number D a) (inv_e (row_number D b)) ≡ row_number D (raw_quotient_lem (pos D) a b)
+  pub quotient_is : pos 0 <ℤ a.m → pos 0 <ℤ b.m → mul_e (row_number D a) (inv_e (row_number D b)) ≡ row_number D (raw_parts (pos D) a b)
   quotient_is h k = go a.m b.m h k (nonzero_row D b k f n)
     where
       N : ℤ
@@ -121,7 +121,7 @@ module _ (d : ℤ) (a b : Parts) (v : Words a) (w : Words b) where
     pub q_is : q ≡ to_z w64 (of_z w64 up) *ℤ to_z w64 (of_z w64 r₂)
     pub m_is : m ≡ to_z w64 (of_z w64 a.m) *ℤ to_z w64 (of_z w64 t)
 
-  pub quotient_parts : (n up r₁ r₂ t p q m : ℤ) → Worked n up r₁ r₂ t p q m → passed p q m ≡ raw_quotient_lem d a b
+  pub quotient_parts : (n up r₁ r₂ t p q m : ℤ) → Worked n up r₁ r₂ t p q m → passed p q m ≡ raw_parts d a b
   quotient_parts n up r₁ r₂ t p q m k =
       let up' : up ≡ sign (norm d b) *ℤ b.m = turned_words up b.m n w.m_fits k.n_fits k.up_is ∙ ap (λ z. sign z *ℤ b.m) k.n_is in
       let t' : t ≡ sign (norm d b) *ℤ norm d b = turned_words t n n k.n_fits k.n_fits k.t_is ∙ ap (λ z. sign z *ℤ z) k.n_is in

@@ -1,6 +1,5 @@
 // Fractions as a kind of number.
 ghost use Rattle.std.specs.Prelude.{pos, refl};
-ghost use Rattle.algebra.specs.Exact.{mul_e};
 ghost use Rattle.numbers.specs.Answers.{Quotient};
 ghost use Rattle.numbers.specs.Examples.{ProductsAtTheLimit};
 ghost use Rattle.numbers.specs.Forms.{HoldsExactly};
