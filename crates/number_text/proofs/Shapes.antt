@@ -1,6 +1,7 @@
 -- The three ways to spell a number, by where their marks stand. Assumes nothing.
-use Rattle.std.proofs.Common.{◌≡◌, ℕ, ◌<◌, ◌≢◌, List, [], ◌∷◌, ◌++◌, ℤ, Some, None, Bor, sym, refl, ap, ◌∙◌, subst, ap₂, inl, inr, arith}
-use Rattle.std.proofs.lemmas.Str.Pattern.{IsSplitOnceResult, split_after, split_parts, split_text_parts}
+use Rattle.std.proofs.Common.{◌≡◌, ℕ, ◌+◌, ◌<◌, ◌≢◌, List, [], ◌∷◌, ◌++◌, length, drop, ℤ, Some, None, Bor, sym, refl, ap, ◌∙◌, subst, ap₂, inl, inr, arith}
+use Rattle.std.specs.Str.Pattern.{FindsCharPrefix}
+use Rattle.std.proofs.lemmas.Str.Pattern.{IsSplitOnceResult, split_after, split_parts, split_text_parts, strip_prefix_char}
 use Rattle.std.specs.Int.{IsInRange}
 use Rattle.numbers.specs.Texts.{root_sign}
 use Rattle.number_text.specs.Spelling.{Natural, Whole, Step, Over, Plain, Beside, Sum, Inside, Below, Rooted}
@@ -103,32 +104,35 @@ rooted_marks D bs rest p q m b (t, u, e, s, (v, f, n, o), d) =
       some_root = d;
     }
 
--- the two splits meet the marks
-module _ (D : ℕ) (bs rest : List ℕ) (b : bs ≡ 40 ∷ rest) (p q : ℤ) (m : ℕ) where
-  pub no_close_mark : IsTextSplit (41 ∷ (47 ∷ [])) rest None → ¬ Rooted D bs p q m
-  no_close_mark c h = let k = rooted_marks D bs rest p q m b h in text_after 41 (47 ∷ []) rest k.inside k.below None c k.close k.first_close
+-- the parenthesis taken off and the two splits meet the marks
+module _ (D : ℕ) (bs : List ℕ) (rest : Bor (List ℕ)) (o : (n : ℕ) × FindsCharPrefix 40 bs (Some n) × (rest.now ≡ drop n bs) × (length rest.now + n ≡ length bs)) (p q : ℤ) (m : ℕ) where
+  open_mark : bs ≡ 40 ∷ rest.now
+  open_mark = strip_prefix_char 40 bs (Some rest) o (omega arith)
 
-  module _ (x : Bor (List ℕ) × Bor (List ℕ)) (c : IsTextSplit (41 ∷ (47 ∷ [])) rest (Some x)) where
+  pub no_close_mark : IsTextSplit (41 ∷ (47 ∷ [])) rest.now None → ¬ Rooted D bs p q m
+  no_close_mark c h = let k = rooted_marks D bs rest.now p q m open_mark h in text_after 41 (47 ∷ []) rest.now k.inside k.below None c k.close k.first_close
+
+  module _ (x : Bor (List ℕ) × Bor (List ℕ)) (c : IsTextSplit (41 ∷ (47 ∷ [])) rest.now (Some x)) where
     pub no_root_mark : IsTextSplit root_sign x.0.now None → ¬ Rooted D bs p q m
     no_root_mark d h =
-        let k = rooted_marks D bs rest p q m b h in
-        let s = text_after 41 (47 ∷ []) rest k.inside k.below (Some x) c k.close k.first_close in
+        let k = rooted_marks D bs rest.now p q m open_mark h in
+        let s = text_after 41 (47 ∷ []) rest.now k.inside k.below (Some x) c k.close k.first_close in
         text_after 226 (136 ∷ (154 ∷ [])) x.0.now k.above k.root None d (s.0 ∙ k.under) k.first_under
 
     pub rooted_parts : (y : Bor (List ℕ) × Bor (List ℕ)) → IsTextSplit root_sign x.0.now (Some y) → Rooted D bs p q m
         → Sum y.0.now p q × Natural y.1.now D × Natural x.1.now m × (0 < m) × (0 < D)
     rooted_parts y d h =
-        let k = rooted_marks D bs rest p q m b h in
-        let s = text_after 41 (47 ∷ []) rest k.inside k.below (Some x) c k.close k.first_close in
+        let k = rooted_marks D bs rest.now p q m open_mark h in
+        let s = text_after 41 (47 ∷ []) rest.now k.inside k.below (Some x) c k.close k.first_close in
         let r = text_after 226 (136 ∷ (154 ∷ [])) x.0.now k.above k.root (Some y) d (s.0 ∙ k.under) k.first_under in
         (subst (λ l. Sum l p q) (sym r.0) k.sum, subst (λ l. Natural l D) (sym r.1) k.radicand, subst (λ l. Natural l m) (sym s.1) k.divisor, k.above_zero, k.some_root)
 
     pub parts_rooted : (y : Bor (List ℕ) × Bor (List ℕ)) → IsTextSplit root_sign x.0.now (Some y) → Sum y.0.now p q → Natural y.1.now D → Natural x.1.now m → 0 < m → 0 < D → Rooted D bs p q m
-    parts_rooted y d s n k o z = (
+    parts_rooted y d s n k l z = (
       x.0.now,
       41 ∷ (47 ∷ x.1.now),
-      b ∙ ap (λ l. 40 ∷ l) (split_text_parts (41 ∷ (47 ∷ [])) rest (Some x) c),
+      open_mark ∙ ap (λ l. 40 ∷ l) (split_text_parts (41 ∷ (47 ∷ [])) rest.now (Some x) c),
       (y.0.now, root_sign ++ y.1.now, split_text_parts root_sign x.0.now (Some y) d, s, (y.1.now, refl, n)),
-      (x.1.now, refl, k, o),
+      (x.1.now, refl, k, l),
       z,
     )
