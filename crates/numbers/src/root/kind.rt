@@ -55,7 +55,7 @@ fn conjugate_whole<R: Radicand>(a: Root<R>, b: Root<R>) -> i64
     two_products(a.row.p, b.row.p, times(-R::D, a.row.q), b.row.q)
 }
 
-// Its part with the root: q·p' − p·q'.
+// Its part with the root: q·p' − p·q'. One function for both parts would be over four words, and ask each caller for their bounds.
 fn conjugate_root<R: Radicand>(a: Root<R>, b: Root<R>) -> i64
     ensures value { result ≡ (a.row.q *ℤ b.row.p) -ℤ (a.row.p *ℤ b.row.q) }
     ensures bound { Bounded (100 * (root_size * root_size)) result }

@@ -20,8 +20,8 @@ turned x h = omega (arith, ints)
 
 worked_is : (S : ℕ) (row : Parts) → Room S → Given S row → worked row ≡ raw_opposite row
 worked_is S row r k =
-    let ps = k.sizes.p_size in let qs = k.sizes.q_size in
-    let p = turned row.p (omega arith) in let q = turned row.q (omega arith) in let m = word row.m k.fits.m_fits in
+    let ps = k.p.size_is in let qs = k.q.size_is in
+    let p = turned row.p (omega arith) in let q = turned row.q (omega arith) in let m = word row.m k.m.fits in
     λ i. record { p = p i; q = q i; m = m i }
 
 pub made-requires : goal.made-requires

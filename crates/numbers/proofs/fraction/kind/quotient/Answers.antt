@@ -2,41 +2,36 @@ use Rattle.std.proofs.Common.{◌≡◌, ◌≤◌, ◌≢◌, ℤ, pos, ◌*ℤ
 use Rattle.std.proofs.lemmas.Int.{ints}
 use Rattle.numbers.specs.Rows.{row_number}
 use Rattle.numbers.specs.Steps.{sign, Room}
-use Rattle.numbers.specs.Forms.{plain_row, Within}
+use Rattle.numbers.specs.Forms.{plain_row}
 use Rattle.numbers.specs.Fractions.{fraction_size, fraction_row, fraction_value}
 use Rattle.numbers.specs.declared.fraction.Fraction.{Fraction}
 use Rattle.numbers.specs.declared.Parts.{Parts}
-use Rattle.numbers.specs.Lowering.{form_above}
 use Rattle.numbers.specs.Machine.{word}
-use Rattle.numbers.specs.Bounds.{small_words, product_words}
-use Rattle.numbers.specs.RowSums.{form_sizes, words, Words, answer_for}
+use Rattle.numbers.specs.Bounds.{product_words}
+use Rattle.numbers.specs.RowSums.{answer_for}
 use Rattle.numbers.specs.RowKinds.{quotient_answer}
+use Rattle.numbers.specs.FractionKind.{formed}
 use Rattle.numbers.specs.Signs.{abs_turned}
 use Rattle.numbers.specs.FractionSteps.{zero_row, nonzero_row, quotient_row, below_above}
+use Rattle.numbers.proofs.Given.{Given, Part, given, product_room}
 use Rattle.numbers.proofs.fraction.kind.quotient.Goals as goal
 
-above : (k : Fraction) → pos 0 <ℤ k.m
-above k = form_above fraction_size (fraction_row k) k.form
+row : (k : Fraction) → Given fraction_size (fraction_row k)
+row k = given 0 fraction_size (fraction_row k) (lit< tt) (formed k)
 
 pub returns-then-b-eq0 : goal.returns-then-b-eq0
 returns-then-b-eq0 c =
     let b = c.args.b in
     let f : SFits w64 b.p = search rules in
     let e : b.p ≡ pos 0 = omega (arith, ints) in
-    ap (λ (z : ℤ). row_number 0 (plain_row z b.m)) e ∙ zero_row b.m (above b)
-
-sizes : (k : Fraction) → Within fraction_size (fraction_row k)
-sizes k = form_sizes fraction_size (fraction_row k) k.form
-
-fits : (k : Fraction) → Words (fraction_row k)
-fits k = words fraction_size (fraction_row k) (lit< tt) (sizes k)
+    ap (λ (z : ℤ). row_number 0 (plain_row z b.m)) e ∙ zero_row b.m (row b).above
 
 pub turned-requires-2 : goal.turned-requires-2
-turned-requires-2 c = let b = c.args.b in let s = (sizes b).p_size in subst (λ (z : ℤ). Room (nat_abs z)) (sym (word b.p (fits b).p_fits)) (omega arith)
+turned-requires-2 c = let b = c.args.b in let p = (row b).p in let s = p.size_is in subst (λ (z : ℤ). Room (nat_abs z)) (sym (word b.p p.fits)) (omega arith)
 
 -- what `turned` gives, without words
 turned_is : (b : Fraction) (x r : ℤ) → SFits w64 x → r ≡ sign (to_z w64 (of_z w64 b.p)) *ℤ to_z w64 (of_z w64 x) → r ≡ sign b.p *ℤ x
-turned_is b x r f e = e ∙ ap₂ (λ (y z : ℤ). sign y *ℤ z) (word b.p (fits b).p_fits) (word x f)
+turned_is b x r f e = e ∙ ap₂ (λ (y z : ℤ). sign y *ℤ z) (word b.p (row b).p.fits) (word x f)
 
 turned_size : (b : Fraction) (x r : ℤ) → r ≡ sign b.p *ℤ x → nat_abs x ≤ fraction_size → nat_abs r ≤ fraction_size
 turned_size b x r e h = let k = ap nat_abs e ∙ abs_turned x b.p in omega arith
@@ -44,16 +39,14 @@ turned_size b x r e h = let k = ap nat_abs e ∙ abs_turned x b.p in omega arith
 pub times-p-requires : goal.times-p-requires
 times-p-requires c =
     let a = c.args.a in let b = c.args.b in let r = c.turned.result in
-    let f : SFits w64 r = search rules in
-    small_words fraction_size fraction_size a.p r (fits a).p_fits f (lit< tt) (sizes a).p_size
-    (turned_size b b.m r (turned_is b b.m r (fits b).m_fits c.turned.ensures) (sizes b).m_size)
+    let m : Part fraction_size r = record { fits = search rules; size_is = turned_size b b.m r (turned_is b b.m r (row b).m.fits c.turned.ensures) (row b).m.size_is } in
+    product_room (row a).p m (lit< tt)
 
 pub times-m-requires : goal.times-m-requires
 times-m-requires c =
     let a = c.args.a in let b = c.args.b in let r = c.turned-2.result in
-    let f : SFits w64 r = search rules in
-    small_words fraction_size fraction_size a.m r (fits a).m_fits f (lit< tt) (sizes a).m_size
-    (turned_size b b.p r (turned_is b b.p r (fits b).p_fits c.turned-2.ensures) (sizes b).p_size)
+    let p : Part fraction_size r = record { fits = search rules; size_is = turned_size b b.p r (turned_is b b.p r (row b).p.fits c.turned-2.ensures) (row b).p.size_is } in
+    product_room (row a).m p (lit< tt)
 
 -- the parts worked out
 module _ (a b : Fraction) (t u p m : ℤ) (ft : SFits w64 t) (fu : SFits w64 u) (fp : SFits w64 p) (fm : SFits w64 m)
@@ -61,8 +54,8 @@ module _ (a b : Fraction) (t u p m : ℤ) (ft : SFits w64 t) (fu : SFits w64 u) 
     (ep : p ≡ to_z w64 (of_z w64 a.p) *ℤ to_z w64 (of_z w64 t)) (em : m ≡ to_z w64 (of_z w64 a.m) *ℤ to_z w64 (of_z w64 u)) where
   parts : plain_row (to_z w64 (of_z w64 p)) (to_z w64 (of_z w64 m)) ≡ plain_row (a.p *ℤ (sign b.p *ℤ b.m)) (a.m *ℤ (sign b.p *ℤ b.p))
   parts = ap₂ plain_row
-      (word p fp ∙ product_words p a.p t (fits a).p_fits ft ep ∙ ap (λ z. a.p *ℤ z) (turned_is b b.m t (fits b).m_fits et))
-      (word m fm ∙ product_words m a.m u (fits a).m_fits fu em ∙ ap (λ z. a.m *ℤ z) (turned_is b b.p u (fits b).p_fits eu))
+      (word p fp ∙ product_words p a.p t (row a).p.fits ft ep ∙ ap (λ z. a.p *ℤ z) (turned_is b b.m t (row b).m.fits et))
+      (word m fm ∙ product_words m a.m u (row a).m.fits fu em ∙ ap (λ z. a.m *ℤ z) (turned_is b b.p u (row b).p.fits eu))
 
 nonzero : (b : Fraction) → SFits w64 b.p → ¬ (of_z w64 b.p ≡ 0) → b.p ≢ pos 0
 nonzero b f n e = n (ap (of_z w64) e)
@@ -75,7 +68,7 @@ fitted-requires-clause-above c =
     let fp : SFits w64 c.times-p.result = search rules in
     let fm : SFits w64 c.times-m.result = search rules in
     let e = parts a b c.turned.result c.turned-2.result c.times-p.result c.times-m.result ft fu fp fm c.turned.ensures c.turned-2.ensures c.times-p.ensures c.times-m.ensures in
-    subst (λ (z : Parts). pos 0 <ℤ z.m) (sym e) (below_above a.m b.p (above a) (nonzero b (fits b).p_fits c.if-b-eq0.false))
+    subst (λ (z : Parts). pos 0 <ℤ z.m) (sym e) (below_above a.m b.p (row a).above (nonzero b (row b).p.fits c.if-b-eq0.false))
 
 pub returns : goal.returns
 returns c =
@@ -85,6 +78,6 @@ returns c =
     let fp : SFits w64 c.times-p.result = search rules in
     let fm : SFits w64 c.times-m.result = search rules in
     let e = parts a b c.turned.result c.turned-2.result c.times-p.result c.times-m.result ft fu fp fm c.turned.ensures c.turned-2.ensures c.times-p.ensures c.times-m.ensures in
-    let n = nonzero b (fits b).p_fits c.if-b-eq0.false in
-    quotient_answer fraction_value (fraction_value a) (fraction_value b) _ c.fitted.result (nonzero_row b.p b.m (above b) n) (quotient_row a.p a.m b.p b.m (above a) (above b) n)
+    let n = nonzero b (row b).p.fits c.if-b-eq0.false in
+    quotient_answer fraction_value (fraction_value a) (fraction_value b) _ c.fitted.result (nonzero_row b.p b.m (row b).above n) (quotient_row a.p a.m b.p b.m (row a).above (row b).above n)
     (answer_for 0 fraction_value _ _ _ c.fitted.result e refl c.fitted.ensures)
