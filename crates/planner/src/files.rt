@@ -15,6 +15,7 @@ pub fn read_start(rt: &HostRuntime, name: &str, most: u64) -> Result<Vec<u8>, Fa
 // A whole file of at most `most` bytes, as text.
 pub fn read_text(rt: &HostRuntime, name: &str, most: u64) -> Result<String, Failure> {
     let bytes = read_start(rt, name, most.saturating_add(1))?;
+    // `as`, here and for a feed's limit: a usize has no From to u64
     if bytes.len() as u64 > most {
         return fail(
             rt,
