@@ -28,7 +28,7 @@ pub fn integer(text: &[u8], most: u16) -> Option<i16>
     requires { most ≤ 999 }
     ensures { MatchOption result (Integers most text.now → ⊥) (λ z. Within most z × (text.now ≡ signed_decimal z)) }
 {
-    // at most `most`, so the casts keep the number
+    // at most `most`, so the casts keep the number: a TryFrom would add a refusal that cannot come
     match text {
         [b'-', digits @ ..] => Some(-(unsigned(digits, 1, most)? as i16)),
         _ => Some(unsigned(text, 0, most)? as i16),
@@ -45,7 +45,7 @@ pub fn factors(text: &[u8], out: &mut [i8]) -> Option<()>
     }
     // by index: a zip over `iter_mut` leaves a proof nothing of what is written
     for (k, word) in text.split(|b| *b == b',').enumerate() {
-        // between -99 and 99, so it fits
+        // between -99 and 99, so it fits: a TryFrom would add a refusal that cannot come
         out[k] = integer(word, 99)? as i8;
     }
     Some(())

@@ -20,7 +20,7 @@ impl Label {
         if text.is_empty() || text.len() > 8 {
             return None;
         }
-        // one walk by index checks the letters and leaves the padding
+        // by index, a rule of the project: one walk checks the letters and leaves the padding
         let mut bytes = [0u8; 8];
         for (i, b) in text.iter().enumerate() {
             if !is_letter(*b) {

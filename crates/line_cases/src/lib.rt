@@ -61,6 +61,7 @@ impl Line for Plain {
         0
     }
 
+    // like the steady line's: one impl for all lines at the bottom would overlap those of the layers
     fn f(&self, stop: usize, row: usize, column: usize) -> Result<Fraction, LineFault> {
         let mark = Mark::at(0, stop, row, column);
         Ok(whole_at(self.f_number(stop, row, column), mark)?)

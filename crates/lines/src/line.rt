@@ -40,7 +40,8 @@ pub trait Line {
     fn level(&self) -> u8
         ensures { result ≡ (meaning self.now).level };
 
-    // An entry of F: columns are inputs, states, constant; rows are states, constant.
+    // An entry of F: columns are inputs, states, constant; rows are states, constant. Stop, row and column are apart here and below: contracts name each,
+    // and a struct of the three would only be taken apart again.
     fn f(&self, stop: usize, row: usize, column: usize) -> Result<Self::Number, LineFault>
         ensures { Answer ((meaning self.now).F stop row column) result };
 

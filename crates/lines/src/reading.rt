@@ -41,7 +41,8 @@ pub(super) fn row_start(w: usize, a: usize) -> usize
     a * (2 * w + 1 - a) / 2
 }
 
-// The sizes that a table begins with: they say where its other numbers stand.
+// The sizes that a table begins with: they say where its other numbers stand. A table's own, since lines do not stand on feeds, and a crate for three bytes
+// is no plainer.
 #[derive(Clone, Copy)]
 pub(super) struct Sizes {
     pub(super) stops: u8,

@@ -65,7 +65,7 @@ fn reduced(raw: Parts) -> Parts
     if raw.p == 0 && raw.q == 0 {
         return Parts { p: 0, q: 0, m: 1 };
     }
-    // It divides m, which is above 0, so a signed word holds it.
+    // It divides m, which is above 0, so a signed word holds it: a TryFrom would add a refusal that cannot come.
     let divisor = divisor_of(raw) as i64;
     Parts {
         p: raw.p / divisor,

@@ -1,4 +1,5 @@
-// Files read up to a limit, so that no file is read without bound.
+// Files read up to a limit, so that no file is read without bound. The runtime and a file's name are apart: a struct of the two would only be taken
+// apart again.
 use super::failure::{Failure, fail};
 use std::fs;
 use std::io::Read;
@@ -15,7 +16,7 @@ pub fn read_start(rt: &HostRuntime, name: &str, most: u64) -> Result<Vec<u8>, Fa
 // A whole file of at most `most` bytes, as text.
 pub fn read_text(rt: &HostRuntime, name: &str, most: u64) -> Result<String, Failure> {
     let bytes = read_start(rt, name, most.saturating_add(1))?;
-    // `as`, here and for a feed's limit: a usize has no From to u64
+    // `as`: a usize has no From to u64
     if bytes.len() as u64 > most {
         return fail(
             rt,

@@ -5,6 +5,7 @@ use feed_types::types::{Sizes, Train};
 use feeds::book::Book;
 
 // One byte past the limit of a feed is enough to refuse a long file.
+// `as`: a usize has no From to u64
 const MOST: u64 = feeds::MOST_BYTES as u64 + 1;
 
 const HELP: &str = "usage: planner join FEED ...

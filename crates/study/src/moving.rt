@@ -24,6 +24,7 @@ impl<N: Kind + Copy> Underway<N> {
     ) -> Result<Ordered<N>, (Underway<N>, StudyFault)>
         ensures { ProposePromise N.Number self gains.now trail.now slip.old slip.new result }
     {
+        // a match: over map and map_err the proof was tried and did not close
         match propose_at::<N>(self.at, gains, trail, slip) {
             Ok(at) => Ok(Ordered {
                 at,

@@ -24,7 +24,7 @@ impl<N: Kind + Copy> New<N> {
     ) -> Result<Weighed<N>, (New<N>, StudyFault)>
         ensures { WeighPromise N.Number self (L.Line.meaning line.now) gains.old gains.new scratch.old scratch.new result }
     {
-        // a match, and so in propose: over map and map_err, as begin has them, the proof was tried and did not close
+        // a match: over map and map_err, as begin has them, the proof was tried and did not close
         match W::weigh_line(line, gains, scratch) {
             Ok(sizes) => Ok(Weighed {
                 sizes,

@@ -2,8 +2,8 @@
 use numbers::Parts;
 use study_terms::faults::StudyFault;
 
-// At most four rows: the lateness or the adjustments of a stop. They lie in place and are copied: no answer wants memory, and the
-// vectors of fixed room that a library has are not `Copy`.
+// At most four rows: the lateness or the adjustments of a stop. They lie in place and are copied: no answer wants memory, and a
+// vector is not `Copy`.
 #[derive(Clone, Copy)]
 pub struct Few {
     pub rows: [Parts; 4],

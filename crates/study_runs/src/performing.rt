@@ -24,6 +24,7 @@ pub(super) enum Study<N> {
     Ordered(Ordered<N>),
 }
 
+// Line and command are apart: the line is the caller's for the whole run, a command for one step, and not each state asks the line.
 fn from_new<W: Work, L: Line>(
     study: New<L::Number>,
     line: &L,

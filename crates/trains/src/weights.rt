@@ -30,7 +30,7 @@ impl Places {
         -i64::from(t.aim)
     }
 
-    // What a train adds to an entry of the cost.
+    // What a train adds to an entry of the cost. Row and column are apart, as in `Line`.
     fn share(self, t: &Train, row: usize, column: usize) -> i64
         ensures value { result ≡ share self.first self.states t.now row column }
         ensures bound { unsigned_abs result ≤ 65535 * 32768 * 32768 }

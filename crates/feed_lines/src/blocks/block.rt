@@ -32,7 +32,7 @@ impl<'a> Blocks<'a> {
         }
         let aim = lines.integer(Key::Aim, 999)?;
         let train = Train {
-            // at most the last stop, so it fits
+            // at most the last stop, so it fits: a TryFrom would add a refusal that cannot come
             stop: stop as u8,
             label,
             weight,

@@ -20,7 +20,7 @@ fn size(lines: &mut Lines, key: Key, most: u8, held: Option<u8>) -> Result<u8, F
         (BadSize key most held (left lines.old) lines.old.place.line) }
 {
     let line = lines.line();
-    // at most `most`, so it fits
+    // at most `most`, so it fits: a TryFrom would add a refusal that cannot come
     let n = lines.count(key, 1, u16::from(most))? as u8;
     if held.is_some_and(|m| m != n) {
         return Err(FeedFault::OtherSize { line });

@@ -77,6 +77,7 @@ impl<S: AsSlice<i64>> Line for Table<S> {
         0
     }
 
+    // like the steady line's: one impl for all lines at the bottom would overlap those of the layers
     fn f(&self, stop: usize, row: usize, column: usize) -> Result<Fraction, LineFault> {
         let mark = Mark::at(0, stop, row, column);
         Ok(whole_at(self.f_number(stop, row, column), mark)?)

@@ -90,6 +90,7 @@ impl Number for Fraction {
         0
     }
 
+    // passed on call by call: one impl over `InRows` would want the quotient and the sign there too, and is no plainer
     fn whole(w: i64) -> Result<Fraction, NumberFault> {
         fitted(Parts { p: w, q: 0, m: 1 })
     }

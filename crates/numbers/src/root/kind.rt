@@ -135,6 +135,7 @@ impl<R: Radicand> Number for Root<R> {
         R::D
     }
 
+    // passed on call by call: one impl over `InRows` would want the quotient and the sign there too, and is no plainer
     fn whole(w: i64) -> Result<Root<R>, NumberFault> {
         fitted(Parts { p: w, q: 0, m: 1 })
     }

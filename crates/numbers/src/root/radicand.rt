@@ -20,6 +20,7 @@ pub trait Radicand {
     ghost small: { Under radicand };
 }
 
+// A type for each number and no const parameter: a radicand is an interface that gives the constant D, a rule of the project.
 pub struct Three;
 
 impl Radicand for Three {

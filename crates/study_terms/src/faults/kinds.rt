@@ -1,7 +1,8 @@
 // The refusals of a study.
 use lines::faults::Mark;
 
-// The fault below a number that could not be worked.
+// The fault below a number that could not be worked. An error enum and no Option of a mark: `?` makes it of a number's fault and of a line's, a rule
+// of the project.
 #[derive(Clone, Copy, PartialEq, Eq, Debug)]
 pub enum Below {
     // the kind does not hold the number
