@@ -7,6 +7,9 @@ use feed_types::types::Sizes;
 mod block;
 mod header;
 
+pub use block::read_block;
+pub use header::read_header;
+
 // The blocks of a feed, by the sizes in its header, and the place of the block that is read next.
 #[derive(Drop)]
 pub struct Blocks<'a> {

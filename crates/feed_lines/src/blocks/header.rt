@@ -10,7 +10,7 @@ use super::Blocks;
 use crate::MOST_BYTES;
 use crate::lines::Lines;
 use feed_types::faults::FeedFault;
-use feed_types::keys::Key;
+use feed_types::keys::{Key, Place};
 use feed_types::types::Sizes;
 
 // The size on the next line of a header, which is to be the book's, if it has sizes.
@@ -54,4 +54,12 @@ impl<'a> Blocks<'a> {
     {
         self.sizes
     }
+}
+
+// The sizes of the header that a feed begins with, and the place of its first block.
+pub fn read_header(feed: &[u8], held: Option<Sizes>) -> Result<(Sizes, Place), FeedFault>
+    ensures { MatchResult result (λ p. ReadHeader feed.now held p.0 p.1) (λ e. (ts : List Train) → Refused feed.now (record { sizes = held; trains = ts }) e) }
+{
+    let blocks = Blocks::new(feed, held)?;
+    Ok((blocks.sizes, blocks.lines.place()))
 }

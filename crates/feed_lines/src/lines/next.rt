@@ -3,7 +3,7 @@ ghost use Rattle.std.specs.Prelude.{◌≡◌, ◌==◌, length, Decides, MatchO
 ghost use Rattle.std.specs.List.{position};
 ghost use Rattle.feed_types.specs.declared.faults.FeedFault.TheVariants.{NoLine};
 ghost use Rattle.feed_types.specs.declared.keys.Key.{Key};
-ghost use Rattle.feed_types.specs.Tokens.{spelt, HasNoLine};
+ghost use Rattle.feed_types.specs.Tokens.{spelt, HasNoLine, InFeed};
 ghost use Rattle.feed_lines.specs.Lexing.{key_of, value_of};
 ghost use Rattle.feed_lines.specs.Cursor.{Passes, left};
 
@@ -24,8 +24,22 @@ impl<'a> Lines<'a> {
     pub fn new(feed: &'a [u8]) -> Lines<'a>
         ensures { (result.feed.now ≡ feed.now) × (result.place ≡ record { line = 1; at = 0 }) }
     {
-        let place = Place { line: 1, at: 0 };
+        Lines::at(feed, Place { line: 1, at: 0 })
+    }
+
+    // A feed before the line at a place.
+    pub fn at(feed: &'a [u8], place: Place) -> Lines<'a>
+        requires { InFeed feed.now place }
+        ensures { (result.feed.now ≡ feed.now) × (result.place ≡ place) }
+    {
         Lines { feed, place }
+    }
+
+    // The place of the next line.
+    pub fn place(&self) -> Place
+        ensures { result ≡ self.now.place }
+    {
+        self.place
     }
 
     // The number of the next line.
