@@ -21,28 +21,21 @@ pub enum Token<'a> {
 }
 
 // The key that a word spells, if it is one of a feed's.
-fn key_named(word: &str) -> Option<Key>
-    ensures { MatchOption result (IsKey word.now → ⊥) (λ k. word.now ≡ spelt k) }
-{
-    match word {
-        "stops" => Some(Key::Stops),
-        "states" => Some(Key::States),
-        "inputs" => Some(Key::Inputs),
-        "train" => Some(Key::Train),
-        "stop" => Some(Key::Stop),
-        "weight" => Some(Key::Weight),
-        "late" => Some(Key::Late),
-        "move" => Some(Key::Move),
-        "aim" => Some(Key::Aim),
-        _ => None,
-    }
-}
-
-// The same of bytes, which may be no text.
 pub fn key_in(word: &[u8]) -> Option<Key>
     ensures { MatchOption result (IsKey word.now → ⊥) (λ k. word.now ≡ spelt k) }
 {
-    key_named(std::str::from_utf8(word).ok()?)
+    match word {
+        b"stops" => Some(Key::Stops),
+        b"states" => Some(Key::States),
+        b"inputs" => Some(Key::Inputs),
+        b"train" => Some(Key::Train),
+        b"stop" => Some(Key::Stop),
+        b"weight" => Some(Key::Weight),
+        b"late" => Some(Key::Late),
+        b"move" => Some(Key::Move),
+        b"aim" => Some(Key::Aim),
+        _ => None,
+    }
 }
 
 impl<'a> Token<'a> {
