@@ -6,12 +6,40 @@
 //   find STOP LABEL     where a train stands
 ghost use Rattle.std.specs.Prelude.{◌<◌, length, IfSome};
 
-use anyhow::{Result, bail};
 use feed_types::faults::FeedFault;
 use feeds::book::Book;
-use std::alloc::{AllocError, Global};
+use std::alloc::{AllocError, AllocFailed, Global};
+use std::io;
 
-fn main(rt: HostRuntime) -> Result<()> {
+// Why the program stops before its end. It prints by its name, `Error: NoCase`, and a cause beside `Memory` would print too: so the
+// conversions are written out.
+#[derive(Debug, Drop)]
+enum Failure {
+    Memory,
+    Io(io::Error),
+    // a line that is no case
+    NoCase,
+}
+
+impl From<AllocError> for Failure {
+    fn from(_e: AllocError) -> Failure {
+        Failure::Memory
+    }
+}
+
+impl<T: Drop> From<AllocFailed<T>> for Failure {
+    fn from(_e: AllocFailed<T>) -> Failure {
+        Failure::Memory
+    }
+}
+
+impl From<io::Error> for Failure {
+    fn from(e: io::Error) -> Failure {
+        Failure::Io(e)
+    }
+}
+
+fn main(rt: HostRuntime) -> Result<(), Failure> {
     let mut book = Book::new(rt.alloc())?;
     for line in rt.lines(rt.alloc()) {
         let line = line?;
@@ -25,7 +53,7 @@ fn main(rt: HostRuntime) -> Result<()> {
     Ok(())
 }
 
-fn answer(rt: &HostRuntime, book: &mut Book, line: &str) -> Result<()> {
+fn answer(rt: &HostRuntime, book: &mut Book, line: &str) -> Result<(), Failure> {
     match line.split_once(' ') {
         Some(("read", feed)) => {
             let bytes = unescaped(rt.alloc(), feed.as_bytes())?;
@@ -36,11 +64,11 @@ fn answer(rt: &HostRuntime, book: &mut Book, line: &str) -> Result<()> {
             Ok(())
         }
         Some(("find", rest)) => find(rt, book, rest),
-        _ => bail!("no case: {line}"),
+        _ => Err(Failure::NoCase),
     }
 }
 
-fn tell(rt: &HostRuntime, answer: Result<usize, FeedFault>) -> Result<()> {
+fn tell(rt: &HostRuntime, answer: Result<usize, FeedFault>) -> Result<(), Failure> {
     match answer {
         Ok(new) => println!(rt; "new {new}")?,
         Err(FeedFault::OtherValues { line, slot }) => println!(rt;
@@ -57,11 +85,9 @@ fn tell(rt: &HostRuntime, answer: Result<usize, FeedFault>) -> Result<()> {
     Ok(())
 }
 
-fn find(rt: &HostRuntime, book: &Book, rest: &str) -> Result<()> {
-    let Some((stop, label)) = rest.split_once(' ') else {
-        bail!("no stop and label: {rest}");
-    };
-    let stop = stop.parse::<usize>()?;
+fn find(rt: &HostRuntime, book: &Book, rest: &str) -> Result<(), Failure> {
+    let (stop, label) = rest.split_once(' ').ok_or(Failure::NoCase)?;
+    let stop = stop.parse::<usize>().map_err(|_| Failure::NoCase)?;
     match book.find(stop, label.as_bytes()) {
         Some(slot) => println!(rt; "slot {slot}")?,
         None => println!(rt; "none")?,
