@@ -33,6 +33,6 @@ pub struct Train {
 
 // `==` of labels and of trains is equality of all their values. The function carries the theorem in its contract.
 pub fn equality_is_of_all_values()
-    ensures labels { (l m : Label) → Decides (⟦<Label as PartialEq>⟧.eq l m) (l ≡ m) }
-    ensures trains { (t u : Train) → Decides (⟦<Train as PartialEq>⟧.eq t u) (t ≡ u) }
+    ensures equal_labels { (l m : Label) → Decides (⟦<Label as PartialEq>⟧.eq l m) (l ≡ m) }
+    ensures equal_trains { (t u : Train) → Decides (⟦<Train as PartialEq>⟧.eq t u) (t ≡ u) }
 {}

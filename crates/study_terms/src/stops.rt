@@ -38,7 +38,7 @@ impl Standing {
 
     // Where the lateness at the stop begins in the trail; before the last stop the adjustments follow it.
     pub fn lateness_place(self) -> usize
-        ensures place { result ≡ x_place (shape self.sizes) self.stop 0 }
+        ensures value { result ≡ x_place (shape self.sizes) self.stop 0 }
         ensures bound { result ≤ 168 }
     {
         self.stop * (self.sizes.states + self.sizes.inputs)
