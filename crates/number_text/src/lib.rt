@@ -1,13 +1,13 @@
 #![tactic(auto)]
 
 // Numbers from text: the reader of what numbers are printed as.
-ghost use Rattle.std.specs.Prelude.{Some};
+ghost use Rattle.std.specs.Prelude.{◌≡◌, ◌≢◌, MatchBool, Some};
 ghost use Rattle.number_text.specs.Readings.{Reads, ReadsBack, Short, fault_text};
 ghost use Rattle.numbers.specs.Fractions.{fraction_row};
 ghost use Rattle.numbers.specs.RootValues.{root_row};
 
 use marks::spelled;
-use numbers::{Fraction, Number, Radicand, Root, lowest_parts};
+use numbers::{Fraction, Number, Parts, Radicand, Root, lowest_parts};
 use std::error::Error;
 use std::fmt;
 
@@ -36,6 +36,13 @@ impl fmt::Display for TextFault {
 
 impl Error for TextFault {}
 
+// Whether two rows are alike in each part. It stands alone, so that a contract says which parts count.
+fn same_parts(a: Parts, b: Parts) -> bool
+    ensures { MatchBool result (a ≡ b) (a ≢ b) }
+{
+    a == b
+}
+
 // The number of a kind that a text spells. What is printed reads back.
 pub fn read_number<N: Number + Copy>(text: &str) -> Result<N, TextFault>
     ensures reads { Reads N.Number.radicand N.Number.value text.now result }
@@ -44,7 +51,7 @@ pub fn read_number<N: Number + Copy>(text: &str) -> Result<N, TextFault>
     let raw = spelled(text, N::under_root()).ok_or(TextFault::NotANumber)?;
     let row = lowest_parts(raw).ok_or(TextFault::NotANumber)?;
     let number = N::read(row);
-    if number.row() == row {
+    if same_parts(number.row(), row) {
         Ok(number)
     } else {
         Err(TextFault::NotHeld)

@@ -20,11 +20,11 @@ fn divisor(text: &str) -> Option<i64>
 fn plain(text: &str) -> Option<Parts>
     ensures { PlainAnswer (Plain text.now) result }
 {
-    let (p, m) = match text.split_once('/') {
-        Some((above, below)) => (whole(above)?, divisor(below)?),
-        None => (whole(text)?, 1),
+    let (p, q, m) = match text.split_once('/') {
+        Some((above, below)) => (whole(above)?, 0, divisor(below)?),
+        None => (whole(text)?, 0, 1),
     };
-    Some(Parts { p, q: 0, m })
+    Some(Parts { p, q, m })
 }
 
 // p and then q with its sign, which is the last sign.

@@ -20,8 +20,8 @@ returns-in_err-raw g c =
 spells : (D : ℕ) (d : ℤ) (bs : List ℕ) (r : Option Parts) (raw : Parts) → ((D : ℕ) → to_z w64 (of_z w64 d) ≡ pos D → Found D bs r) → SFits w64 d → d ≡ pos D → r ≡ Some raw → Spells D bs raw.p raw.q (nat_abs raw.m)
 spells D d bs r raw h f e k = (subst (Found D bs) k (h D (to_z-of_z w64 d f ∙ e))).1
 
-pub returns-then-eq : goal.returns-then-eq
-returns-then-eq g c =
+pub returns-then-same_parts : goal.returns-then-same_parts
+returns-then-same_parts g c =
     let D = g.N.Number.radicand in let bs = c.args.text.now in let laws = g.met.N.Number in
     let raw = c.in_ok-raw.raw in let row = c.in_ok-row.row in let k = c.read-number.result in
     let f : SFits w64 c.under_root.result = search rules in
@@ -33,8 +33,8 @@ returns-then-eq g c =
     read_means g.N.Number.value g.N.Number.parts g.N.Number.reading laws.same laws.form laws.back raw row l k (sym c.row.ensures ∙ same) in
     record { reads = (raw.p, raw.q, nat_abs raw.m, s, v); back = λ j. reads_back g.N.Number.value g.N.Number.parts laws.small laws.same laws.form bs (Ok k) (raw.p, raw.q, nat_abs raw.m, s, v) j }
 
-pub returns-else-eq : goal.returns-else-eq
-returns-else-eq g c =
+pub returns-else-same_parts : goal.returns-else-same_parts
+returns-else-same_parts g c =
     let D = g.N.Number.radicand in let bs = c.args.text.now in let laws = g.met.N.Number in
     let raw = c.in_ok-raw.raw in let row = c.in_ok-row.row in let k = c.read-number.result in
     let f : SFits w64 c.under_root.result = search rules in

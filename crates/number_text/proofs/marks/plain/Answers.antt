@@ -38,16 +38,16 @@ above_zero y h = omega (arith, ints)
 pub returns : goal.returns
 returns c =
     let bs = c.args.text.now in
-    let G : ℤ × ℤ → Type 0 = λ x. (pos 0 <ℤ to_z w64 (of_z w64 x.1)) × (pos 0 ≡ pos 0) × Plain bs (to_z w64 (of_z w64 x.0)) (nat_abs (to_z w64 (of_z w64 x.1))) in
+    let G : ℤ × ℤ × ℤ → Type 0 = λ x. (pos 0 <ℤ to_z w64 (of_z w64 x.2)) × (to_z w64 (of_z w64 x.1) ≡ pos 0) × Plain bs (to_z w64 (of_z w64 x.0)) (nat_abs (to_z w64 (of_z w64 x.2))) in
     elim c.match-split_once.branch [
       | in-Some+in_ok-whole-in-Some+in_ok-divisor-in-Some w ↦
           let z = w.in_ok-whole-in-Some.field-0 in let y = w.in_ok-divisor-in-Some.field-0 in let d = w.in_ok-divisor-in-Some.ensures in
           let fz : SFits w64 z = search rules in
           let fy : SFits w64 y = search rules in
           let e = (split_parts 47 bs (Some (w.in-Some.above, w.in-Some.below)) w.in-Some.ensures.cases (omega arith)).0 in
-          subst G (sym (w.p-is ∙ ap₂ (λ (x y : ℤ). (x, y)) (to_z-of_z w64 z fz) (to_z-of_z w64 y fy))) (made bs z y fz fy d.0 (inr (w.in-Some.above.now, w.in-Some.below.now, e, (w.in_ok-whole-in-Some.ensures, d.1, above_zero y d.0))))
+          subst G (sym (w.p-is ∙ ap₂ (λ (x y : ℤ). (x, pos 0, y)) (to_z-of_z w64 z fz) (to_z-of_z w64 y fy))) (made bs z y fz fy d.0 (inr (w.in-Some.above.now, w.in-Some.below.now, e, (w.in_ok-whole-in-Some.ensures, d.1, above_zero y d.0))))
       | in-None+in_ok-whole-in-None w ↦
           let z = w.in_ok-whole-in-None.field-0 in
           let fz : SFits w64 z = search rules in
-          subst G (sym (w.p-is ∙ ap (λ (x : ℤ). (x, pos 1)) (to_z-of_z w64 z fz))) (made bs z (pos 1) fz (omega (arith, ints)) (record { lt = tt }) (inl (w.in_ok-whole-in-None.ensures, refl)))
+          subst G (sym (w.p-is ∙ ap (λ (x : ℤ). (x, pos 0, pos 1)) (to_z-of_z w64 z fz))) (made bs z (pos 1) fz (omega (arith, ints)) (record { lt = tt }) (inl (w.in_ok-whole-in-None.ensures, refl)))
     ]
